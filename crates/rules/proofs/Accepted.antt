@@ -1,0 +1,89 @@
+-- What an accepted call has passed: an answer of 0 taken apart into the facts that its checks ask for.
+use mathlib.Core.Path.{_≡_, refl, sym, ap, _∙_, subst}
+use mathlib.Core.Bool.{Bool, true, false, not, _&&_, _||_}
+use mathlib.Core.List.{List, []}
+use Prim.Native.Nat.{ℕ, zero, suc, _+_, _*_, _≤_, _<_}
+use native.Mathlib.Decide.{ℕ-discrete}
+use native.Mathlib.Nat.{mul-pos}
+use native.Mathlib.Omega.{arith}
+use lib.Dec.{T, leb, ltb, eqb, nltb→le, le→leb}
+use lib.IntN.{ℤ, pos, negsuc}
+use Rattle.rules.specs.Base.{if_then_else_}
+use Rattle.rules.specs.Color.{RunnerConfig}
+use Rattle.rules.specs.Refusals.{limit, badShift, tableLength, outputsLength, workLength, runAnswer, runAndPaintAnswer, paintAnswer}
+use Rattle.rules.proofs.Facts.{is-false, eqb-no, eqb-yes}
+use Rattle.rules.proofs.Visits.{eqb-is, eqb-ne}
+
+-- a check whose number is not 0 was passed, and so were the later ones
+pub passed : (number : ℕ) (bad : Bool) (later : ℕ) → (if bad then suc number else later) ≡ 0 → (bad ≡ false) × (later ≡ 0)
+passed number true later e = absurd (omega arith)
+passed number false later e = (refl, e)
+
+pub neither : (a b : Bool) → a || b ≡ false → (a ≡ false) × (b ≡ false)
+neither true b e = absurd (subst T e tt)
+neither false b e = (refl, e)
+
+pub not-below : (a b : ℕ) → ltb a b ≡ false → b ≤ a
+not-below a b e = nltb→le a b (subst (λ x. T (not x)) (sym e) tt)
+
+equal : (a b : ℕ) → not (eqb a b) ≡ false → a ≡ b
+equal a b e = go (eqb a b) refl e
+  where
+    go : (x : Bool) → eqb a b ≡ x → not x ≡ false → a ≡ b
+    go true z y = eqb-is a b z
+    go false z y = absurd (subst T y tt)
+
+pub record GoodSize (w h : ℕ) : Type 0 where
+  pub wide : 0 < w
+  pub high : 0 < h
+  pub some : 0 < w * h
+  pub small : w * h ≤ limit
+
+good-size : (w h : ℕ) → eqb w 0 || eqb h 0 ≡ false → ltb limit (w * h) ≡ false → GoodSize w h
+good-size w h a b = record {
+  wide = pos₀ w (neither (eqb w 0) (eqb h 0) a .0);
+  high = pos₀ h (neither (eqb w 0) (eqb h 0) a .1);
+  some = mul-pos (pos₀ w (neither (eqb w 0) (eqb h 0) a .0)) (pos₀ h (neither (eqb w 0) (eqb h 0) a .1));
+  small = not-below limit (w * h) b;
+}
+  where
+    pos₀ : (x : ℕ) → eqb x 0 ≡ false → 0 < x
+    pos₀ x e = let d = eqb-ne x 0 e in go x d
+      where
+        go : (x : ℕ) → (x ≡ 0 → ⊥) → 0 < x
+        go zero d = absurd (d refl)
+        go (suc x) d = omega arith
+
+-- image, labels, links, table, outputs and work are lengths
+pub record Accepted (o : RunnerConfig) (w h image labels links table outputs work : ℕ) : Type 0 where
+  pub shift : badShift (o .isSameColorA) ≡ false
+  pub size : GoodSize w h
+  pub bytes : image ≡ 4 * (w * h)
+  pub labels-fit : w * h ≤ labels
+  pub links-fit : w * h ≤ links
+  pub table-fits : tableLength (w * h) ≤ table
+  pub outputs-fit : outputsLength (w * h) ≤ outputs
+  pub work-fits : workLength (w * h) ≤ work
+
+pub run-accepted : (o : RunnerConfig) (w h image labels links table outputs work : ℕ) → runAnswer w h o image labels links table outputs work ≡ 0 → Accepted o w h image labels links table outputs work
+unfolding runAnswer
+run-accepted o w h image labels links table outputs work e =
+    let c1 = passed 0 (badShift (o .isSameColorA)) _ e in
+    let c2 = passed 1 (eqb w 0 || eqb h 0) _ (c1 .1) in
+    let c3 = passed 2 (ltb limit (w * h)) _ (c2 .1) in
+    let c4 = passed 3 (not (eqb image (4 * (w * h)))) _ (c3 .1) in
+    let c5 = passed 4 (ltb labels (w * h) || ltb links (w * h) || ltb table (tableLength (w * h)) || ltb outputs (outputsLength (w * h)) || ltb work (workLength (w * h))) _ (c4 .1) in
+    let l4 = neither _ (ltb work (workLength (w * h))) (c5 .0) in
+    let l3 = neither _ (ltb outputs (outputsLength (w * h))) (l4 .0) in
+    let l2 = neither _ (ltb table (tableLength (w * h))) (l3 .0) in
+    let l1 = neither (ltb labels (w * h)) (ltb links (w * h)) (l2 .0) in
+    record {
+      shift = c1 .0;
+      size = good-size w h (c2 .0) (c3 .0);
+      bytes = equal image (4 * (w * h)) (c4 .0);
+      labels-fit = not-below labels (w * h) (l1 .0);
+      links-fit = not-below links (w * h) (l1 .1);
+      table-fits = not-below table (tableLength (w * h)) (l2 .1);
+      outputs-fit = not-below outputs (outputsLength (w * h)) (l3 .1);
+      work-fits = not-below work (workLength (w * h)) (l4 .1);
+    }

@@ -1,0 +1,273 @@
+-- The ledger and the state after a merge, and what lists, sums and labels have to do with the ledger in both stages.
+use mathlib.Core.Path.{_≡_, refl, sym, ap, ap₂, _∙_, subst, fun-ext}
+use mathlib.Core.Logic.{_≢_, _⊎_, inl, inr}
+use mathlib.Core.Bool.{Bool, true, false, not, _&&_, _||_}
+use mathlib.Core.List.{List, [], _∷_, _++_}
+use Prim.Native.Nat.{ℕ, zero, suc, _+_, _≤_, _<_}
+use native.Mathlib.Decide.{ℕ-discrete}
+use native.Mathlib.Omega.{arith}
+use lib.Dec.{T, eqb}
+use lib.ListN.{length, getD, set, length-set}
+use lib.Seq.{getD-set-same, getD-set-other}
+use Rattle.rules.specs.Base.{if_then_else_}
+use Rattle.rules.specs.Color.{ColorSum, zeroSum, _⊕_}
+use Rattle.rules.specs.State.{State, Cluster, newCluster, cluster, label, relabel, withCluster, emptied, withResidue, mergedTo, deeper, combine, merge, deepen, Event, added, plain, deepened}
+use Rattle.rules.specs.Ledger.{Held, enter, ledger}
+use Rattle.rules.specs.Claim.{bit, occurs, tally, Stands}
+use Rattle.rules.proofs.Facts.{is-true, is-false, T-dec, T-or, T-or-l, T-or-r, eqb-yes, eqb-no, bit-or, bit-T, T-bit, occurs-append, relabel-other, relabel-in, length-relabel, ⊕-comm, tally-or, tally-none}
+
+-- ---- the ledger after a merge
+
+pub plain-t : (h : Held) (f t : ℕ) → enter (plain f t) h t ≡ (λ q. h t q || h f q)
+plain-t h f t = fun-ext λ q. rw (eqb-yes t t refl)
+
+pub plain-f : (h : Held) (f t : ℕ) → f ≢ t → enter (plain f t) h f ≡ (λ q. false)
+plain-f h f t n = fun-ext λ q. rw (eqb-no f t n, eqb-yes f f refl)
+
+pub plain-o : (h : Held) (f t j : ℕ) → j ≢ f → j ≢ t → enter (plain f t) h j ≡ h j
+plain-o h f t j n m = fun-ext λ q. rw (eqb-no j t m, eqb-no j f n)
+
+pub deepened-t : (h : Held) (f t : ℕ) → enter (deepened f t) h t ≡ (λ q. h t q || h f q)
+deepened-t h f t = fun-ext λ q. rw (eqb-yes t t refl)
+
+pub deepened-o : (h : Held) (f t j : ℕ) → j ≢ t → enter (deepened f t) h j ≡ h j
+deepened-o h f t j m = fun-ext λ q. rw (eqb-no j t m)
+
+-- what a plain merge leaves, read both ways
+module _ (g : Held) (f t : ℕ) (n : f ≢ t) where
+  pub plain-down : (j q : ℕ) → T (enter (plain f t) g j q) → (j ≢ f) × (((j ≡ t) × T (g f q)) ⊎ T (g j q))
+  plain-down j q x = pick (ℕ-discrete j f) (ℕ-discrete j t)
+    where
+      side : (j ≡ t) → T (g t q) ⊎ T (g f q) → ((j ≡ t) × T (g f q)) ⊎ T (g j q)
+      side e (inl y) = inr (subst (λ m. T (g m q)) (sym e) y)
+      side e (inr y) = inl (e, y)
+
+      pick : Dec (j ≡ f) → Dec (j ≡ t) → (j ≢ f) × (((j ≡ t) × T (g f q)) ⊎ T (g j q))
+      pick (yes e) d = absurd (subst (λ u. T (u q)) (plain-f g f t n) (subst (λ m. T (enter (plain f t) g m q)) e x))
+      pick (no d) (yes e) = (d, side e (T-or (g t q) (g f q) (subst (λ u. T (u q)) (plain-t g f t) (subst (λ m. T (enter (plain f t) g m q)) e x))))
+      pick (no d) (no e) = (d, inr (subst (λ u. T (u q)) (plain-o g f t j d e) x))
+
+  pub plain-to : (q : ℕ) → T (g f q) → T (enter (plain f t) g t q)
+  plain-to q x = subst (λ u. T (u q)) (sym (plain-t g f t)) (T-or-r (g t q) (g f q) x)
+
+  pub plain-up : (j q : ℕ) → j ≢ f → T (g j q) → T (enter (plain f t) g j q)
+  plain-up j q d x = pick (ℕ-discrete j t)
+    where
+      pick : Dec (j ≡ t) → T (enter (plain f t) g j q)
+      pick (yes e) = subst (λ m. T (enter (plain f t) g m q)) (sym e) (subst (λ u. T (u q)) (sym (plain-t g f t)) (T-or-l (g t q) (g f q) (subst (λ m. T (g m q)) e x)))
+      pick (no e) = subst (λ u. T (u q)) (sym (plain-o g f t j d e)) x
+
+-- and a deepening merge
+module _ (g : Held) (f t : ℕ) where
+  pub deepened-down : (j q : ℕ) → T (enter (deepened f t) g j q) → ((j ≡ t) × T (g f q)) ⊎ T (g j q)
+  deepened-down j q x = pick (ℕ-discrete j t)
+    where
+      side : (j ≡ t) → T (g t q) ⊎ T (g f q) → ((j ≡ t) × T (g f q)) ⊎ T (g j q)
+      side e (inl y) = inr (subst (λ m. T (g m q)) (sym e) y)
+      side e (inr y) = inl (e, y)
+
+      pick : Dec (j ≡ t) → ((j ≡ t) × T (g f q)) ⊎ T (g j q)
+      pick (yes e) = side e (T-or (g t q) (g f q) (subst (λ u. T (u q)) (deepened-t g f t) (subst (λ m. T (enter (deepened f t) g m q)) e x)))
+      pick (no e) = inr (subst (λ u. T (u q)) (deepened-o g f t j e) x)
+
+  pub deepened-to : (q : ℕ) → T (g f q) → T (enter (deepened f t) g t q)
+  deepened-to q x = subst (λ u. T (u q)) (sym (deepened-t g f t)) (T-or-r (g t q) (g f q) x)
+
+  pub deepened-up : (j q : ℕ) → T (g j q) → T (enter (deepened f t) g j q)
+  deepened-up j q x = pick (ℕ-discrete j t)
+    where
+      pick : Dec (j ≡ t) → T (enter (deepened f t) g j q)
+      pick (yes e) = subst (λ m. T (enter (deepened f t) g m q)) (sym e) (subst (λ u. T (u q)) (sym (deepened-t g f t)) (T-or-l (g t q) (g f q) (subst (λ m. T (g m q)) e x)))
+      pick (no e) = subst (λ u. T (u q)) (sym (deepened-o g f t j e)) x
+
+-- ---- the state after a merge, of either kind
+
+pub record Moved (f t : ℕ) (s s′ : State) : Type 0 where
+  pub other : (k : ℕ) → k ≢ f → k ≢ t → cluster s′ k ≡ cluster s k
+  pub t-pixels : cluster s′ t .pixels ≡ cluster s t .pixels ++ cluster s f .pixels
+  pub t-sum : cluster s′ t .sum ≡ cluster s t .sum ⊕ cluster s f .sum
+  pub t-merged : cluster s′ t .mergedInto ≡ cluster s t .mergedInto
+  pub labels : s′ .labels ≡ relabel t (cluster s f .pixels) (s .labels)
+  pub table : length (s′ .clusters) ≡ length (s .clusters)
+
+module _ (cs : List Cluster) (f t : ℕ) (x y : Cluster) (n : f ≢ t) (hf : f < length cs) (ht : t < length cs) where
+  two-f : getD (set (set cs t x) f y) f newCluster ≡ y
+  two-f = getD-set-same (set cs t x) f y newCluster (omega (arith, length-set cs t x))
+
+  two-t : getD (set (set cs t x) f y) t newCluster ≡ x
+  two-t = getD-set-other (set cs t x) f t y newCluster (λ e. n (sym e)) ∙ getD-set-same cs t x newCluster ht
+
+  two-o : (k : ℕ) → k ≢ f → k ≢ t → getD (set (set cs t x) f y) k newCluster ≡ getD cs k newCluster
+  two-o k a b = getD-set-other (set cs t x) f k y newCluster a ∙ getD-set-other cs t k x newCluster b
+
+  two-length : length (set (set cs t x) f y) ≡ length cs
+  two-length = length-set (set cs t x) f y ∙ length-set cs t x
+
+module _ (f t : ℕ) (s : State) (n : f ≢ t) (hf : f < length (s .clusters)) (ht : t < length (s .clusters)) where
+  pub merge-f : cluster (merge f t s) f ≡ emptied (cluster s f)
+  unfolding merge
+  merge-f = two-f (s .clusters) f t _ _ n hf ht
+
+  pub merge-t : cluster (merge f t s) t ≡ withResidue (cluster s t .residue ⊕ cluster s f .residue) (withCluster (cluster s f) (cluster s t))
+  unfolding merge
+  merge-t = two-t (s .clusters) f t _ _ n hf ht
+
+  pub merge-moved : Moved f t s (merge f t s)
+  unfolding merge withResidue withCluster
+  merge-moved = record {
+    other = two-o (s .clusters) f t _ _ n hf ht;
+    t-pixels = ap (λ c. c .pixels) merge-t;
+    t-sum = ap (λ c. c .sum) merge-t;
+    t-merged = ap (λ c. c .mergedInto) merge-t;
+    labels = refl;
+    table = two-length (s .clusters) f t _ _ n hf ht;
+  }
+
+  pub combine-f : cluster (combine f t s) f ≡ emptied (cluster s f)
+  unfolding combine
+  combine-f = two-f (s .clusters) f t _ _ n hf ht
+
+  pub combine-t : cluster (combine f t s) t ≡ withCluster (cluster s f) (cluster s t)
+  unfolding combine
+  combine-t = two-t (s .clusters) f t _ _ n hf ht
+
+  pub combine-moved : Moved f t s (combine f t s)
+  unfolding combine withCluster
+  combine-moved = record {
+    other = two-o (s .clusters) f t _ _ n hf ht;
+    t-pixels = ap (λ c. c .pixels) combine-t;
+    t-sum = ap (λ c. c .sum) combine-t;
+    t-merged = ap (λ c. c .mergedInto) combine-t;
+    labels = refl;
+    table = two-length (s .clusters) f t _ _ n hf ht;
+  }
+
+  module _ (hollow : Bool) where
+    pub deepen-f : cluster (deepen hollow f t s) f ≡ mergedTo t (cluster s f)
+    unfolding deepen
+    deepen-f = two-f (s .clusters) f t _ _ n hf ht
+
+    pub deepen-t : cluster (deepen hollow f t s) t ≡ deeper hollow f (withCluster (cluster s f) (cluster s t))
+    unfolding deepen
+    deepen-t = two-t (s .clusters) f t _ _ n hf ht
+
+    pub deepen-moved : Moved f t s (deepen hollow f t s)
+    unfolding deepen deeper withCluster
+    deepen-moved = record {
+      other = two-o (s .clusters) f t _ _ n hf ht;
+      t-pixels = ap (λ c. c .pixels) deepen-t;
+      t-sum = ap (λ c. c .sum) deepen-t;
+      t-merged = ap (λ c. c .mergedInto) deepen-t;
+      labels = refl;
+      table = two-length (s .clusters) f t _ _ n hf ht;
+    }
+
+-- ---- lists, sums and labels
+
+pub record Basic (image : List ℕ) (size : ℕ) (h : Held) (s : State) : Type 0 where
+  pub lists : (k p : ℕ) → occurs p (cluster s k .pixels) ≡ bit (h k p)
+  pub sums : (k : ℕ) → cluster s k .sum ≡ tally image (h k) size
+  pub shown : (p : ℕ) → label s p ≢ 0 → T (h (label s p) p)
+  pub places : (k p : ℕ) → T (h k p) → p < length (s .labels)
+  pub slots : (k p : ℕ) → T (h k p) → k < length (s .clusters)
+  pub width : length (s .labels) ≡ size
+
+-- one of three: f, t, or another
+pub three : (f t : ℕ) (P : ℕ → Type 0) → P f → P t → ((k : ℕ) → k ≢ f → k ≢ t → P k) → (k : ℕ) → P k
+three f t P a b c k = pick (ℕ-discrete k f) (ℕ-discrete k t)
+  where
+    pick : Dec (k ≡ f) → Dec (k ≡ t) → P k
+    pick (yes e) d = subst P (sym e) a
+    pick (no d) (yes e) = subst P (sym e) b
+    pick (no d) (no e) = c k d e
+
+module _ {image : List ℕ} {size : ℕ} {h : Held} {s s′ : State} (S : Basic image size h s) (f t : ℕ) (n : f ≢ t)
+    (apart : (p : ℕ) → T (h t p) → T (h f p) → ⊥) (ht : t < length (s .clusters)) (M : Moved f t s s′) where
+  pub lab-from : (q : ℕ) → T (h f q) → label s′ q ≡ t
+  lab-from q x =
+      ap (λ l. getD l q 0) (M .labels) ∙ relabel-in t q (cluster s f .pixels) (s .labels) (S .places f q x)
+      (λ e. let y : bit (h f q) ≡ 1 = T-bit (h f q) x in omega (arith, S .lists f q))
+
+  pub lab-other : (q : ℕ) → (T (h f q) → ⊥) → label s′ q ≡ label s q
+  lab-other q x =
+      ap (λ l. getD l q 0) (M .labels) ∙ relabel-other t q (cluster s f .pixels) (s .labels) (S .lists f q ∙ ap bit (is-false (h f q) x))
+
+  t-lists : (p : ℕ) → occurs p (cluster s′ t .pixels) ≡ bit (h t p || h f p)
+  t-lists p =
+      ap (occurs p) (M .t-pixels) ∙ occurs-append p (cluster s t .pixels) (cluster s f .pixels)
+      ∙ ap₂ (λ x y. x + y) (S .lists t p) (S .lists f p) ∙ sym (bit-or (h t p) (h f p) (apart p))
+
+  t-sums : cluster s′ t .sum ≡ tally image (λ q. h t q || h f q) size
+  t-sums = M .t-sum ∙ ap₂ (λ x y. x ⊕ y) (S .sums t) (S .sums f) ∙ sym (tally-or image (h t) (h f) apart size)
+
+  new-width : length (s′ .labels) ≡ size
+  new-width = ap length (M .labels) ∙ length-relabel t (cluster s f .pixels) (s .labels) ∙ S .width
+
+  -- h′: the ledger after the merge
+  module _ (h′ : Held) (down : (j q : ℕ) → T (h′ j q) → ((j ≡ t) × T (h f q)) ⊎ T (h j q)) where
+    new-places : (k p : ℕ) → T (h′ k p) → p < length (s′ .labels)
+    new-places k p x = pick (down k p x)
+      where
+        same : length (s′ .labels) ≡ length (s .labels)
+        same = ap length (M .labels) ∙ length-relabel t (cluster s f .pixels) (s .labels)
+
+        pick : ((k ≡ t) × T (h f p)) ⊎ T (h k p) → p < length (s′ .labels)
+        pick (inl y) = rw same (S .places f p (y .1))
+        pick (inr y) = rw same (S .places k p y)
+
+    new-slots : (k p : ℕ) → T (h′ k p) → k < length (s′ .clusters)
+    new-slots k p x = pick (down k p x)
+      where
+        pick : ((k ≡ t) × T (h f p)) ⊎ T (h k p) → k < length (s′ .clusters)
+        pick (inl y) = rw (M .table, y .0) ht
+        pick (inr y) = rw (M .table) (S .slots k p y)
+
+    new-shown : (to : (q : ℕ) → T (h f q) → T (h′ t q)) → (up : (j q : ℕ) → j ≢ f → T (h j q) → T (h′ j q))
+        → (p : ℕ) → label s′ p ≢ 0 → T (h′ (label s′ p) p)
+    new-shown to up p x = pick (T-dec (h f p))
+      where
+        pick : Dec (T (h f p)) → T (h′ (label s′ p) p)
+        pick (yes z) = subst (λ m. T (h′ m p)) (sym (lab-from p z)) (to p z)
+        pick (no z) =
+            let e : label s′ p ≡ label s p = lab-other p z in
+            let y : T (h (label s p) p) = S .shown p (λ v. x (e ∙ v)) in
+            subst (λ m. T (h′ m p)) (sym e) (up (label s p) p (λ v. z (subst (λ m. T (h m p)) v y)) y)
+
+  -- a plain merge, of stage 1 or 2
+  pub plain-basic : cluster s′ f .pixels ≡ [] → cluster s′ f .sum ≡ zeroSum → Basic image size (enter (plain f t) h) s′
+  plain-basic e₁ e₂ = record {
+    lists = three f t (λ k. (p : ℕ) → occurs p (cluster s′ k .pixels) ≡ bit (enter (plain f t) h k p))
+        (λ p. ap (occurs p) e₁ ∙ sym (ap (λ g. bit (g p)) (plain-f h f t n)))
+        (λ p. t-lists p ∙ sym (ap (λ g. bit (g p)) (plain-t h f t)))
+        (λ k a b p. ap (λ c. occurs p (c .pixels)) (M .other k a b) ∙ S .lists k p ∙ sym (ap (λ g. bit (g p)) (plain-o h f t k a b)));
+    sums = three f t (λ k. cluster s′ k .sum ≡ tally image (enter (plain f t) h k) size)
+        (e₂ ∙ sym (tally-none image size) ∙ sym (ap (λ g. tally image g size) (plain-f h f t n)))
+        (t-sums ∙ sym (ap (λ g. tally image g size) (plain-t h f t)))
+        (λ k a b. ap (λ c. c .sum) (M .other k a b) ∙ S .sums k ∙ sym (ap (λ g. tally image g size) (plain-o h f t k a b)));
+    shown = new-shown (enter (plain f t) h) down (plain-to h f t n) (plain-up h f t n);
+    places = new-places (enter (plain f t) h) down;
+    slots = new-slots (enter (plain f t) h) down;
+    width = new-width;
+  }
+    where
+      down : (j q : ℕ) → T (enter (plain f t) h j q) → ((j ≡ t) × T (h f q)) ⊎ T (h j q)
+      down j q x = plain-down h f t n j q x .1
+
+  pub deepened-basic : cluster s′ f .pixels ≡ cluster s f .pixels → cluster s′ f .sum ≡ cluster s f .sum → Basic image size (enter (deepened f t) h) s′
+  deepened-basic e₁ e₂ = record {
+    lists = three f t (λ k. (p : ℕ) → occurs p (cluster s′ k .pixels) ≡ bit (enter (deepened f t) h k p))
+        (λ p. ap (occurs p) e₁ ∙ S .lists f p ∙ sym (ap (λ g. bit (g p)) (deepened-o h f t f n)))
+        (λ p. t-lists p ∙ sym (ap (λ g. bit (g p)) (deepened-t h f t)))
+        (λ k a b p. ap (λ c. occurs p (c .pixels)) (M .other k a b) ∙ S .lists k p ∙ sym (ap (λ g. bit (g p)) (deepened-o h f t k b)));
+    sums = three f t (λ k. cluster s′ k .sum ≡ tally image (enter (deepened f t) h k) size)
+        (e₂ ∙ S .sums f ∙ sym (ap (λ g. tally image g size) (deepened-o h f t f n)))
+        (t-sums ∙ sym (ap (λ g. tally image g size) (deepened-t h f t)))
+        (λ k a b. ap (λ c. c .sum) (M .other k a b) ∙ S .sums k ∙ sym (ap (λ g. tally image g size) (deepened-o h f t k b)));
+    shown = new-shown (enter (deepened f t) h) down (deepened-to h f t) (λ j q d. deepened-up h f t j q);
+    places = new-places (enter (deepened f t) h) down;
+    slots = new-slots (enter (deepened f t) h) down;
+    width = new-width;
+  }
+    where
+      down : (j q : ℕ) → T (enter (deepened f t) h j q) → ((j ≡ t) × T (h f q)) ⊎ T (h j q)
+      down = deepened-down h f t

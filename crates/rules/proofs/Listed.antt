@@ -1,0 +1,161 @@
+-- The area of every standing cluster that is inside no other is listed, so a pass at an area that is not listed does nothing.
+use mathlib.Core.Path.{_≡_, refl, sym, ap, _∙_, subst}
+use mathlib.Core.Logic.{_≢_, _⊎_, inl, inr}
+use mathlib.Core.Bool.{Bool, true, false}
+use mathlib.Core.List.{List, [], _∷_, _++_, map}
+use Prim.Native.Nat.{ℕ, zero, suc, _+_, _*_, _≤_, _<_}
+use native.Mathlib.Decide.{ℕ-discrete}
+use native.Mathlib.Omega.{arith}
+use lib.Dec.{T, eqb, ltb}
+use lib.ListN.{length, getD}
+use Rattle.rules.specs.Base.{if_then_else_, times, insert}
+use Rattle.rules.specs.Color.{RunnerConfig}
+use Rattle.rules.specs.State.{State, Cluster, newCluster, cluster, label, area, emptied, withCluster, mergedTo, deeper, withResidue, put, merge, deepen, plain, deepened}
+use Rattle.rules.specs.Stage2.{areasOf, prepareStage2, visit, pass, passes}
+use Rattle.rules.specs.Run.{stage1}
+use Rattle.rules.specs.Ledger.{Held, enter, ledger}
+use Rattle.rules.specs.Claim.{Stands}
+use Rattle.rules.proofs.Facts.{eqb-no, eqb-yes}
+use Rattle.rules.proofs.Basic.{Moved, three, plain-down, plain-o, deepened-o, merge-f, merge-moved, deepen-f, deepen-moved}
+use Rattle.rules.proofs.Visits.{Going, Near, visit-cases, isolated-cases, visit-going, pass-going, times-keep, eqb-is, eqb-ne, stands, root, k≢t, k-slot, t-slot, target-root}
+use Rattle.rules.proofs.Early.{Early, prepareStage2-going, settled}
+use Rattle.rules.proofs.Whole.{early}
+use Rattle.rules.proofs.Outputs.{In, area-pos}
+
+pub insert-old : (x a : ℕ) (xs : List ℕ) → In x xs → In x (insert a xs)
+insert-old x a [] i = absurd i
+insert-old x a (y ∷ ys) i = pick (ltb a y) (eqb a y) i (insert-old x a ys)
+  where
+    pick : (b c : Bool) → (x ≡ y) ⊎ In x ys → (In x ys → In x (insert a ys)) → In x (if b then a ∷ y ∷ ys else (if c then y ∷ ys else y ∷ insert a ys))
+    pick true c z ih = inr z
+    pick false true z ih = z
+    pick false false (inl e) ih = inl e
+    pick false false (inr z) ih = inr (ih z)
+
+pub insert-new : (a : ℕ) (xs : List ℕ) → In a (insert a xs)
+insert-new a [] = inl refl
+insert-new a (y ∷ ys) = pick (ltb a y) (eqb a y) refl (insert-new a ys)
+  where
+    pick : (b c : Bool) → eqb a y ≡ c → In a (insert a ys) → In a (if b then a ∷ y ∷ ys else (if c then y ∷ ys else y ∷ insert a ys))
+    pick true c e ih = inl refl
+    pick false true e ih = inl (eqb-is a y e)
+    pick false false e ih = inr ih
+
+areas-old : (x : ℕ) (cs : List Cluster) (l : List ℕ) → In x l → In x (areasOf cs l)
+unfolding areasOf
+areas-old x [] l i = i
+areas-old x (c ∷ cs) l i = areas-old x cs (if eqb (area c) 0 then l else insert (area c) l) (pick (eqb (area c) 0))
+  where
+    pick : (b : Bool) → In x (if b then l else insert (area c) l)
+    pick true = i
+    pick false = insert-old x (area c) l i
+
+areas-in : (k : ℕ) (cs : List Cluster) (l : List ℕ) → 0 < area (getD cs k newCluster) → In (area (getD cs k newCluster)) (areasOf cs l)
+unfolding areasOf
+areas-in k [] l p = absurd (omega arith)
+areas-in zero (c ∷ cs) l p = areas-old (area c) cs (if eqb (area c) 0 then l else insert (area c) l) (pick (eqb (area c) 0) refl)
+  where
+    pick : (b : Bool) → eqb (area c) 0 ≡ b → In (area c) (if b then l else insert (area c) l)
+    pick true e = let z : area c ≡ 0 = eqb-is (area c) 0 e in absurd (omega arith)
+    pick false e = insert-new (area c) l
+areas-in (suc k) (c ∷ cs) l p = areas-in k cs (if eqb (area c) 0 then l else insert (area c) l) p
+
+pub record Listed (s : State) : Type 0 where
+  pub areas : (k : ℕ) → Stands (ledger (s .log)) k → cluster s k .mergedInto ≡ 0 → In (area (cluster s k)) (s .listed)
+
+pub put-listed : (k : ℕ) (s : State) → Listed s → Listed (put k s)
+unfolding put
+put-listed k s L = record { areas = L .areas }
+
+module _ {image : List ℕ} {size : ℕ} where
+  module _ (a k : ℕ) (s : State) (G : Going image size a k s) (L : Listed s) (pos : 0 < a) (e : area (cluster s k) ≡ a) (t : ℕ) (N : Near s (label s (getD (cluster s k .pixels) 0 0)) t) where
+    d : k ≢ t
+    d = k≢t a k s G pos e t N
+
+    pub merge-listed : Listed (merge k t s)
+    unfolding merge withCluster withResidue
+    merge-listed = record {
+      areas = three k t (λ j. Stands h′ j → cluster s′ j .mergedInto ≡ 0 → In (area (cluster s′ j)) (insert new (s .listed)))
+          (λ z r. absurd (plain-down (ledger (s .log)) k t d k (z .0) (z .1) .0 refl))
+          (λ z r. subst (λ x. In x (insert new (s .listed))) (sym (ap length (M .t-pixels))) (insert-new new (s .listed)))
+          (λ j u v z r. insert-old (area (cluster s′ j)) new (s .listed) (subst (λ c. In (area c) (s .listed)) (sym (M .other j u v))
+          (L .areas j (z .0, subst (λ g. T (g (z .0))) (plain-o (ledger (s .log)) k t j u v) (z .1)) (sym (ap (λ c. c .mergedInto) (M .other j u v)) ∙ r))));
+    }
+      where
+        s′ : State
+        s′ = merge k t s
+
+        h′ : Held
+        h′ = enter (plain k t) (ledger (s .log))
+
+        new : ℕ
+        new = length (cluster s t .pixels ++ cluster s k .pixels)
+
+        M : Moved k t s (merge k t s)
+        M = merge-moved k t s d (k-slot a k s G pos e t N) (t-slot a k s G pos e t N)
+
+    pub deepen-listed : (hollow : Bool) → Listed (deepen hollow k t s)
+    unfolding deepen withCluster deeper mergedTo
+    deepen-listed hollow = record {
+      areas = three k t (λ j. Stands h′ j → cluster s′ j .mergedInto ≡ 0 → In (area (cluster s′ j)) (insert new (s .listed)))
+          (λ z r. absurd (N .0 (sym (ap (λ c. c .mergedInto) (deepen-f k t s d (k-slot a k s G pos e t N) (t-slot a k s G pos e t N) hollow)) ∙ r)))
+          (λ z r. subst (λ x. In x (insert new (s .listed))) (sym (ap length (M .t-pixels))) (insert-new new (s .listed)))
+          (λ j u v z r. insert-old (area (cluster s′ j)) new (s .listed) (subst (λ c. In (area c) (s .listed)) (sym (M .other j u v))
+          (L .areas j (z .0, subst (λ g. T (g (z .0))) (deepened-o (ledger (s .log)) k t j v) (z .1)) (sym (ap (λ c. c .mergedInto) (M .other j u v)) ∙ r))));
+    }
+      where
+        s′ : State
+        s′ = deepen hollow k t s
+
+        h′ : Held
+        h′ = enter (deepened k t) (ledger (s .log))
+
+        new : ℕ
+        new = length (cluster s t .pixels ++ cluster s k .pixels)
+
+        M : Moved k t s (deepen hollow k t s)
+        M = deepen-moved k t s d (k-slot a k s G pos e t N) (t-slot a k s G pos e t N) hollow
+
+  module _ (o : RunnerConfig) (w h : ℕ) where
+    pub pass-listed : (a : ℕ) (s : State) → Going image size (suc a) 0 s × Listed s → Going image size (suc (suc a)) 0 (pass o w h (suc a) s) × Listed (pass o w h (suc a) s)
+    unfolding pass
+    pass-listed a s R = (
+      pass-going o w h a s (R .0),
+      times-keep (λ k u. Going image size (suc a) k u × Listed u) (visit o w h (suc a))
+          (λ k u H. (
+            visit-going o w h (suc a) k u (H .0) (omega arith),
+            visit-cases o w h (suc a) k u Listed (λ x. H .1) (λ e l. put-listed k u (H .1)) (λ e l z. isolated-cases o w h (suc a) k u Listed (put-listed k u (H .1)) (H .1))
+                (λ e l t N. merge-listed (suc a) k u (H .0) (H .1) (omega arith) e t N) (λ e l t N b. deepen-listed (suc a) k u (H .0) (H .1) (omega arith) e t N b),
+          ))
+          s R (length (s .clusters)) .1,
+    )
+
+    pub passes-listed : (s : State) → Going image size 1 0 s → Listed s → (m : ℕ) → Going image size (suc m) 0 (passes o w h m s) × Listed (passes o w h m s)
+    unfolding passes
+    passes-listed s G L = times-keep (λ a u. Going image size (suc a) 0 u × Listed u) (λ a. pass o w h (suc a)) pass-listed s (G, L)
+
+    -- a pass at an area that is not listed
+    pub pass-skips : (a : ℕ) (s : State) → Going image size (suc a) 0 s → Listed s → (In (suc a) (s .listed) → ⊥) → pass o w h (suc a) s ≡ s
+    unfolding pass visit
+    pass-skips a s G L none = all (length (s .clusters))
+      where
+        from : (k : ℕ) → Going image size (suc a) k s
+        from k = record { sound = G .sound; past = λ j x. side j (G .past j x) }
+          where
+            side : (j : ℕ) → (area (cluster s j) < suc a) ⊎ ((area (cluster s j) ≡ suc a) × (j < 0)) → (area (cluster s j) < suc a) ⊎ ((area (cluster s j) ≡ suc a) × (j < k))
+            side j (inl x) = inl x
+            side j (inr x) = absurd (omega arith)
+
+        differs : (k : ℕ) → area (cluster s k) ≢ suc a
+        differs k e = none (subst (λ x. In x (s .listed)) e (L .areas k (getD (cluster s k .pixels) 0 0, stands (suc a) k s (from k) (omega arith) e) (root (suc a) k s (from k) (omega arith) e)))
+
+        same : (k : ℕ) → visit o w h (suc a) k s ≡ s
+        same k = rw (eqb-no (area (cluster s k)) (suc a) (differs k)) refl
+
+        all : (n : ℕ) → times n (visit o w h (suc a)) s ≡ s
+        all zero = refl
+        all (suc n) = ap (visit o w h (suc a) n) (all n) ∙ same n
+
+pub prepareStage2-listed : {image : List ℕ} {size : ℕ} {Gone : ℕ → Type 0} {Keyed : Type 0} (i : ℕ) (s : State) → Early image size Gone Keyed i s → Listed (prepareStage2 s)
+unfolding prepareStage2 withResidue
+prepareStage2-listed i s E = record { areas = λ k z r. subst (λ c. In (area c) (areasOf (s .clusters) [])) (sym (settled s k)) (areas-in k (s .clusters) [] (area-pos (E .basic) k (z .0) (z .1))) }

@@ -1,0 +1,197 @@
+-- Painting from the buffers of a run answers 0 and gives its picture.
+use mathlib.Core.Path.{_≡_, refl, sym, ap, ap₂, _∙_, subst}
+use mathlib.Core.Logic.{_≢_, _⊎_, inl, inr}
+use mathlib.Core.Bool.{Bool, true, false, not, _&&_, _||_}
+use mathlib.Core.List.{List, [], _∷_, _++_}
+use Prim.Native.Nat.{ℕ, zero, suc, _+_, _*_, _≤_, _<_}
+use native.Mathlib.Decide.{ℕ-discrete}
+use native.Mathlib.Omega.{arith}
+use lib.Dec.{T, leb, ltb, eqb, le→leb, lt→ltb, ltb→lt}
+use lib.ListN.{length, getD, replicate}
+use Rattle.rules.specs.Base.{if_then_else_, each, eachBack, timesBack}
+use Rattle.rules.specs.Color.{RunnerConfig, Color, ColorSum, average, hasAverage}
+use Rattle.rules.specs.State.{State, cluster, label, area}
+use Rattle.rules.specs.Run.{run, dropEmpty, stage1, stage2}
+use Rattle.rules.specs.Layout.{slotWidth, firstOf, link, links, walk, sumNumbers, slot, table}
+use Rattle.rules.specs.Picture.{paintPixel, paintCluster, paint}
+use Rattle.rules.specs.Ledger.{ledger}
+use Rattle.rules.specs.Claim.{occurs, bit, Stands, Paintable}
+use Rattle.rules.specs.Ranges.{Below}
+use Rattle.rules.specs.Paint.{reads, Painted, slotNumber, residueOf, pixelsOf, entryAnswer, entriesAnswer, paintSlot, paintEntries, painting, Lies}
+use Rattle.rules.specs.Demand3.{Agrees}
+use Rattle.rules.proofs.Facts.{eqb-no, bit-T}
+use Rattle.rules.proofs.Visits.{eqb-is}
+use Rattle.rules.proofs.Outputs.{In, in-keep}
+use Rattle.rules.proofs.Pictures.{run-paintable}
+use Rattle.rules.proofs.Moments.{run-returned, run-width}
+use Rattle.rules.proofs.Ranges.{occurs-below}
+
+-- ---- from last to first
+
+back-front {ℓ} : {S : Type ℓ} (l : ℕ) (g : ℕ → S → S) (x : S) → timesBack (suc l) g x ≡ g 0 (timesBack l (λ i. g (suc i)) x)
+back-front zero g x = refl
+back-front (suc l) g x = back-front l g (g (suc l) x)
+
+back-list {ℓ} : {S : Type ℓ} (f : ℕ → S → S) (xs : List ℕ) (x : S) → timesBack (length xs) (λ i. f (getD xs i 0)) x ≡ eachBack xs f x
+back-list f [] x = refl
+back-list f (y ∷ ys) x = back-front (length ys) (λ i. f (getD (y ∷ ys) i 0)) x ∙ ap (f y) (back-list f ys x)
+
+back-same {ℓ} : {S : Type ℓ} (f g : ℕ → S → S) (m : ℕ) → ((i : ℕ) → i < m → (x : S) → f i x ≡ g i x) → (x : S) → timesBack m f x ≡ timesBack m g x
+back-same f g zero e x = refl
+back-same f g (suc i) e x = ap (timesBack i f) (e i (omega arith) x) ∙ back-same f g i (λ j l. e j (omega arith)) (g i x)
+
+getD-in : (xs : List ℕ) (i : ℕ) → i < length xs → In (getD xs i 0) xs
+getD-in [] i l = omega arith
+getD-in (x ∷ xs) zero l = inl refl
+getD-in (x ∷ xs) (suc i) l = inr (getD-in xs i (omega arith))
+
+-- ---- a list along the links
+
+module _ (size : ℕ) (s : State) (ls : List ℕ) (same : (p : ℕ) → p < size → getD ls p 0 ≡ link s p) where
+  reads-walk : (c v : ℕ) → length (walk (link s) v c) ≡ c → Below size (walk (link s) v c) → T (reads size ls v c) × (walk (λ p. getD ls p 0) v c ≡ walk (link s) v c)
+  unfolding walk
+  reads-walk zero v e b = (tt, refl)
+  reads-walk (suc c) zero e b = absurd (omega arith)
+  reads-walk (suc c) (suc p) e b =
+      let r = reads-walk c (link s p) (omega arith) (b .1) in
+      let q : getD ls p 0 ≡ link s p = same p (b .0) in (
+        both (ltb p size) (reads size ls (getD ls p 0) c) (lt→ltb p size (b .0)) (subst (λ x. T (reads size ls x c)) (sym q) (r .0)),
+        ap (λ l. p ∷ l) (ap (λ x. walk (λ y. getD ls y 0) x c) q ∙ r .1),
+      )
+    where
+      both : (x y : Bool) → T x → T y → T (x && y)
+      both true y a b = b
+      both false y a b = a
+
+pub has-average : (x : ColorSum) → 0 < x .count → x .r ≤ 255 * x .count → x .g ≤ 255 * x .count → x .b ≤ 255 * x .count → x .a ≤ 255 * x .count → T (hasAverage x)
+unfolding hasAverage
+has-average x z r g b a =
+    all (eqb (x .count) 0) (leb (x .r) (255 * x .count)) (leb (x .g) (255 * x .count)) (leb (x .b) (255 * x .count)) (leb (x .a) (255 * x .count)) (eqb-no (x .count) 0 (λ e. omega arith))
+    (le→leb (x .r) (255 * x .count) r) (le→leb (x .g) (255 * x .count) g) (le→leb (x .b) (255 * x .count) b) (le→leb (x .a) (255 * x .count) a)
+  where
+    all : (z a b c d : Bool) → z ≡ false → T a → T b → T c → T d → T (not z && a && b && c && d)
+    all true a b c d e x y v w = absurd (subst T e tt)
+    all false true true true true e x y v w = tt
+    all false true true true false e x y v w = w
+    all false true true false d e x y v w = absurd v
+    all false true false c d e x y v w = absurd y
+    all false false b c d e x y v w = absurd x
+
+-- ---- one slot
+
+module _ (size n m : ℕ) (ls tb os : List ℕ) (s : State) (L : Lies size s n m ls tb os) (k : ℕ) (P : Paintable size n (cluster s k) k)
+    (chain : walk (link s) (firstOf (cluster s k .pixels)) (length (cluster s k .pixels)) ≡ cluster s k .pixels) (below : Below size (cluster s k .pixels)) where
+  number : (f : ℕ) → f < slotWidth → slotNumber tb k f ≡ getD (slot s k) f 0
+  unfolding slotNumber
+  number f b = L .numbers k f (P .slot) b
+
+  first : slotNumber tb k 0 ≡ firstOf (cluster s k .pixels)
+  unfolding slot
+  first = number 0 (omega arith)
+
+  count : slotNumber tb k 1 ≡ length (cluster s k .pixels)
+  unfolding slot
+  count = number 1 (omega arith)
+
+  residue : residueOf tb k ≡ cluster s k .residue
+  unfolding residueOf slot sumNumbers
+  residue = λ j. record { r = number 11 (omega arith) j; g = number 12 (omega arith) j; b = number 13 (omega arith) j; a = number 14 (omega arith) j; count = number 15 (omega arith) j }
+
+  listed : T (reads size ls (slotNumber tb k 0) (slotNumber tb k 1)) × (pixelsOf ls tb k ≡ cluster s k .pixels)
+  unfolding pixelsOf
+  listed =
+      let r = reads-walk size s ls (L .linked) (length (cluster s k .pixels)) (firstOf (cluster s k .pixels)) (ap length chain) (subst (Below size) (sym chain) below) in
+      subst (λ x. T (reads size ls x (slotNumber tb k 1)) × (walk (λ p. getD ls p 0) x (slotNumber tb k 1) ≡ cluster s k .pixels)) (sym first)
+      (subst (λ y. T (reads size ls (firstOf (cluster s k .pixels)) y) × (walk (λ p. getD ls p 0) (firstOf (cluster s k .pixels)) y ≡ cluster s k .pixels)) (sym count)
+      (r .0, r .1 ∙ chain))
+
+  pub entry-passes : entryAnswer size n ls tb k ≡ 0
+  unfolding entryAnswer
+  entry-passes =
+      go (ltb k n) (hasAverage (residueOf tb k)) (leb (slotNumber tb k 1) size) (reads size ls (slotNumber tb k 0) (slotNumber tb k 1)) (lt→ltb k n (P .slot))
+      (subst (λ x. T (hasAverage x)) (sym residue) (has-average (cluster s k .residue) (P .some) (P .r) (P .g) (P .b) (P .a))) (le→leb (slotNumber tb k 1) size (omega (arith, count, P .pixels))) (listed .0)
+    where
+      go : (a b c d : Bool) → T a → T b → T c → T d → _≡_ {A = ℕ} (if not a then 8 else (if not b then 9 else (if not c || not d then 10 else 0))) 0
+      go true true true true x y z v = refl
+      go true true true false x y z v = absurd v
+      go true true false d x y z v = absurd z
+      go true false c d x y z v = absurd y
+      go false b c d x y z v = absurd x
+
+  pub entry-paints : (picture : List ℕ) → paintSlot ls tb k picture ≡ paintCluster s k picture
+  unfolding paintSlot paintCluster
+  entry-paints picture = ap₂ (λ ps x. each ps (paintPixel (average x)) picture) (listed .1) residue
+
+-- ---- all entries
+
+module _ (size n : ℕ) (ls tb os : List ℕ) where
+  abbrev at : ℕ → ℕ
+  at i = entryAnswer size n ls tb (getD os i 0)
+
+  answers-zero : (i : ℕ) → ((j : ℕ) → j < i → at j ≡ 0) → entriesAnswer size n ls tb os i ≡ 0
+  unfolding entriesAnswer
+  answers-zero zero f = refl
+  answers-zero (suc i) f = rw (f i (omega arith)) (answers-zero i (λ j l. f j (omega arith)))
+
+  -- a refusal is that of the last entry that does not pass
+  pub answer-first : (i : ℕ) → entriesAnswer size n ls tb os i ≢ 0 → (j : ℕ) × (j < i) × (entriesAnswer size n ls tb os i ≡ at j) × ((k : ℕ) → j < k → k < i → at k ≡ 0)
+  unfolding entriesAnswer
+  answer-first zero d = absurd (d refl)
+  answer-first (suc i) d = go (eqb (at i) 0) refl d (answer-first i)
+    where
+      Found : ℕ → ℕ → Type 0
+      Found a b = (j : ℕ) × (j < b) × (a ≡ at j) × ((k : ℕ) → j < k → k < b → at k ≡ 0)
+
+      later : (j k : ℕ) → ((k : ℕ) → j < k → k < i → at k ≡ 0) → at i ≡ 0 → j < k → k < suc i → Dec (k ≡ i) → at k ≡ 0
+      later j k f z l b (yes e) = ap at e ∙ z
+      later j k f z l b (no e) = f k l (omega arith)
+
+      go : (b : Bool) → eqb (at i) 0 ≡ b → (if b then entriesAnswer size n ls tb os i else at i) ≢ 0
+          → (entriesAnswer size n ls tb os i ≢ 0 → Found (entriesAnswer size n ls tb os i) i) → Found (if b then entriesAnswer size n ls tb os i else at i) (suc i)
+      go true z x ih = let r = ih x in (r .0, omega (arith, r .1), r .2, λ k l b. later (r .0) k (r .3) (eqb-is (at i) 0 z) l b (ℕ-discrete k i))
+      go false z x ih = (i, omega arith, refl, λ k l b. absurd (omega arith))
+
+-- ---- a run
+
+module _ (image : List ℕ) (bytes : (i : ℕ) → getD image i 0 ≤ 255) (o : RunnerConfig) (w h : ℕ) where
+  output-stands : (k : ℕ) → In k (run o w h image .outputs) → Stands (ledger (run o w h image .log)) k
+  unfolding run dropEmpty
+  output-stands k i = run-returned o w h image .counts k .0 (ltb→lt 0 (cluster (run o w h image) k .sum .count) (in-keep (λ j. ltb 0 (cluster (stage2 o w h (stage1 o w h image)) j .sum .count)) k (stage2 o w h (stage1 o w h image) .outputs) i))
+
+  pixels-below : (k : ℕ) → Below (w * h) (cluster (run o w h image) k .pixels)
+  pixels-below k =
+      let C = run-returned o w h image in
+      occurs-below (w * h) (cluster (run o w h image) k .pixels) (λ p z. C .placed k p (bit-T (ledger (run o w h image .log) k p) (λ y. z (C .lists k p ∙ y))) .0)
+
+  pub run-painting : (n m : ℕ) (ls tb os given : List ℕ) → Lies (w * h) (run o w h image) n m ls tb os
+      → painting (w * h) n m ls tb os given ≡ record { answer = 0; picture = paint (w * h) (run o w h image) }
+  unfolding painting paintEntries paint
+  run-painting n m ls tb os given L = subst (λ a. whole a ≡ record { answer = 0; picture = paint (w * h) (run o w h image) }) (sym zero-all) (λ i. record { answer = 0; picture = same i })
+    where
+      s : State
+      s = run o w h image
+
+      entry : ℕ → ℕ
+      entry i = getD (s .outputs) i 0
+
+      whole : ℕ → Painted
+      whole a = record { answer = a; picture = if eqb a 0 then timesBack m (λ i. paintSlot ls tb (getD os i 0)) (replicate (4 * (w * h)) 0) else given }
+
+      inside : (i : ℕ) → i < m → In (entry i) (s .outputs)
+      inside i l = getD-in (s .outputs) i (omega (arith, L .entries))
+
+      fit : (i : ℕ) → i < m → Paintable (w * h) n (cluster s (entry i)) (entry i)
+      fit i l = subst (λ x. Paintable (w * h) x (cluster s (entry i)) (entry i)) (sym (L .slots)) (run-paintable image bytes o w h (entry i) (inside i l))
+
+      chain : (i : ℕ) → i < m → walk (link s) (firstOf (cluster s (entry i) .pixels)) (length (cluster s (entry i) .pixels)) ≡ cluster s (entry i) .pixels
+      chain i l = run-returned o w h image .chains (entry i) (output-stands (entry i) (inside i l))
+
+      zero-all : entriesAnswer (w * h) n ls tb os m ≡ 0
+      zero-all = answers-zero (w * h) n ls tb os m (λ i l. ap (entryAnswer (w * h) n ls tb) (L .put i l) ∙ entry-passes (w * h) n m ls tb os s L (entry i) (fit i l) (chain i l) (pixels-below (entry i)))
+
+      same : timesBack m (λ i. paintSlot ls tb (getD os i 0)) (replicate (4 * (w * h)) 0) ≡ eachBack (s .outputs) (paintCluster s) (replicate (4 * (w * h)) 0)
+      same =
+          back-same (λ i. paintSlot ls tb (getD os i 0)) (λ i. paintCluster s (entry i)) m
+          (λ i l x. ap (λ k. paintSlot ls tb k x) (L .put i l) ∙ entry-paints (w * h) n m ls tb os s L (entry i) (fit i l) (chain i l) (pixels-below (entry i)) x) (replicate (4 * (w * h)) 0)
+          ∙ ap (λ z. timesBack z (λ i. paintCluster s (entry i)) (replicate (4 * (w * h)) 0)) (L .entries)
+          ∙ back-list (paintCluster s) (s .outputs) (replicate (4 * (w * h)) 0)

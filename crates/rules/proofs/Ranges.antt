@@ -1,0 +1,341 @@
+-- Every number of a run is in its range, at every moment, before every turn, and at the end.
+use mathlib.Core.Path.{_≡_, refl, sym, ap, _∙_, subst}
+use mathlib.Core.Logic.{_≢_, _⊎_, inl, inr}
+use mathlib.Core.Bool.{Bool, true, false, not, _&&_}
+use mathlib.Core.List.{List, [], _∷_, _++_, map}
+use Prim.Native.Nat.{ℕ, zero, suc, _+_, _*_, _≤_, _<_}
+use native.Mathlib.Decide.{ℕ-discrete, decLt}
+use native.Mathlib.Omega.{arith}
+use lib.Dec.{T, eqb, ltb, lt→ltb, ltb→lt}
+use lib.ListN.{length, getD, length-append, length-map, List·getD-eq-default}
+use Rattle.rules.specs.Base.{if_then_else_, keep}
+use Rattle.rules.specs.Color.{RunnerConfig, ColorSum, _⊕_, keyingOn}
+use Rattle.rules.specs.State.{State, Cluster, newCluster, cluster, label, area, emptied, withCluster, mergedTo, deeper, withResidue, put, merge, deepen, plain, deepened}
+use Rattle.rules.specs.Stage1.{taken}
+use Rattle.rules.specs.Stage2.{visit, prepareStage2}
+use Rattle.rules.specs.Run.{stage1, stage2, run, dropEmpty}
+use Rattle.rules.specs.Layout.{after, firstOf, link}
+use Rattle.rules.specs.Refusals.{largestTotal, sumAnswer}
+use Rattle.rules.specs.Ledger.{Held, ledger, owned}
+use Rattle.rules.specs.Claim.{bit, occurs, tally, countOf, Stands}
+use Rattle.rules.specs.Moments.{moments, Each}
+use Rattle.rules.specs.Order.{start, turns}
+use Rattle.rules.specs.Ranges.{Fits, OnImage, Below, Ranged}
+use Rattle.rules.specs.Demand3.{Discarded}
+use Rattle.rules.proofs.Facts.{is-false, standing, T-bit, bit-T, eqb-yes, countOf-le}
+use Rattle.rules.proofs.Basic.{Basic, Moved, three, plain-to, deepened-to, merge-f, merge-t, merge-moved, deepen-f, deepen-t, deepen-moved}
+use Rattle.rules.proofs.Sound.{Sound}
+use Rattle.rules.proofs.Visits.{Going, Near, visit-cases, isolated-cases, stands, root, k≢t, k-slot, t-slot, target-root, target-stands, merge-going, deepen-going}
+use Rattle.rules.proofs.Early.{Early, settled}
+use Rattle.rules.proofs.Whole.{early, early-at}
+use Rattle.rules.proofs.Outputs.{area-le, area-countOf}
+use Rattle.rules.proofs.Pictures.{tally-count, tally-bytes}
+use Rattle.rules.proofs.Bounds.{Bounded, Root, rooted, waiting, root-out, fewer-roots}
+use Rattle.rules.proofs.Moments.{Between, moments-keep, stage2-keep, each-map}
+use Rattle.rules.proofs.Order.{Turning, turns-keep, start-turning}
+use Rattle.rules.proofs.Slots.{Slot, stage1-slots, both-rects, no-rect}
+
+countOf-fits : (f : ℕ → Bool) (n : ℕ) → countOf f n ≤ n
+unfolding countOf
+countOf-fits f zero = omega arith
+countOf-fits f (suc n) = go (f n) (countOf-fits f n)
+  where
+    go : (b : Bool) → countOf f n ≤ n → bit b + countOf f n ≤ suc n
+    go true l = omega arith
+    go false l = omega arith
+
+-- ---- lists
+
+below-snoc : (n k : ℕ) (xs : List ℕ) → Below n xs → k < n → Below n (xs ++ (k ∷ []))
+below-snoc n k [] b l = (l, tt)
+below-snoc n k (x ∷ xs) b l = (b .0, below-snoc n k xs (b .1) l)
+
+below-keep : (n : ℕ) (f : ℕ → Bool) (xs : List ℕ) → Below n xs → Below n (keep f xs)
+below-keep n f [] b = tt
+below-keep n f (x ∷ xs) b = go (f x) (below-keep n f xs (b .1))
+  where
+    go : (c : Bool) → Below n (keep f xs) → Below n (if c then x ∷ keep f xs else keep f xs)
+    go true r = (b .0, r)
+    go false r = r
+
+begins-le : (n : ℕ) (xs : List ℕ) → Below n xs → firstOf xs ≤ n
+unfolding firstOf
+begins-le n [] b = omega arith
+begins-le n (x ∷ xs) b = b .0
+
+after-le : (n p : ℕ) (xs : List ℕ) → Below n xs → after p xs ≤ n
+unfolding after
+after-le n p [] b = omega arith
+after-le n p (x ∷ []) b = omega arith
+after-le n p (x ∷ y ∷ ys) b = go (eqb p x) (after-le n p (y ∷ ys) (b .1))
+  where
+    go : (c : Bool) → after p (y ∷ ys) ≤ n → (if c then suc y else after p (y ∷ ys)) ≤ n
+    go true l = b .1 .0
+    go false l = l
+
+pub occurs-below : (n : ℕ) (xs : List ℕ) → ((p : ℕ) → occurs p xs ≢ 0 → p < n) → Below n xs
+occurs-below n [] f = tt
+occurs-below n (x ∷ xs) f = (f x (λ z. let e : bit (eqb x x) ≡ 1 = ap bit (eqb-yes x x refl) in omega arith), occurs-below n xs (λ p d. f p (λ z. d (omega arith))))
+
+-- ---- what is not told by the ledger, kept by every visit
+
+module _ (image : List ℕ) (bytes : (i : ℕ) → getD image i 0 ≤ 255) where
+  tally-fits : (f : ℕ → Bool) (size : ℕ) → Fits size (tally image f size)
+  tally-fits f size =
+      let t = tally-bytes image bytes f size in
+      let c = tally-count image f size in
+      record { count = omega (arith, c, countOf-fits f size); r = omega (arith, c, t .0); g = omega (arith, c, t .1); b = omega (arith, c, t .2); a = omega (arith, c, t .3) }
+
+  -- every sum of a state that agrees with a ledger: in stage 1 too, after every join and every pixel (Early)
+  pub sum-fits : {size : ℕ} {h : Held} {s : State} → Basic image size h s → (k : ℕ) → Fits size (cluster s k .sum)
+  sum-fits {size} {h} {s} C k = subst (Fits size) (sym (C .sums k)) (tally-fits (h k) size)
+
+  pub taken-fits : (o : RunnerConfig) (w h n : ℕ) → n ≤ w * h → (k : ℕ) → Fits (w * h) (cluster (taken o w image (w * h) n) k .sum)
+  taken-fits o w h n l k = sum-fits (early-at o w h image n l .basic) k
+
+  residue-fits : {size : ℕ} {h O : Held} {s : State} → Sound image size h O s → (k : ℕ) → Stands h k → Fits size (cluster s k .residue)
+  residue-fits {size} {h} {O} {s} S k z = subst (Fits size) (sym (S .residues k z)) (tally-fits (O k) size)
+
+  module _ (w h n : ℕ) where
+    record Inner (s : State) : Type 0 where
+      table : length (s .clusters) ≡ n
+      rects : (k : ℕ) → OnImage w h (cluster s k .rect)
+      residues : (k : ℕ) → Fits (w * h) (cluster s k .residue)
+      into : (k : ℕ) → cluster s k .mergedInto < n
+      -- each deepening takes a root
+      depths : (k : ℕ) → cluster s k .depth + countOf (rooted s) n ≤ w * h
+      holes : (k : ℕ) → length (cluster s k .holes) ≤ cluster s k .depth
+      children : (k : ℕ) → Below n (cluster s k .holes)
+      outputs : Below n (s .outputs)
+
+    put-inner : (k : ℕ) (s : State) → k < n → Inner s → Inner (put k s)
+    unfolding put rooted
+    put-inner k s l I = record { table = I .table; rects = I .rects; residues = I .residues; into = I .into; depths = I .depths; holes = I .holes; children = I .children; outputs = below-snoc n k (s .outputs) (I .outputs) l }
+
+    module _ (a k : ℕ) (s : State) (G : Going image (w * h) a k s) (I : Inner s) (pos : 0 < a) (e : area (cluster s k) ≡ a) where
+      fits : k < n
+      fits = subst (λ m. k < m) (I .table) (G .sound .basic .slots k (getD (cluster s k .pixels) 0 0) (stands a k s G pos e))
+
+      B : Bounded (length (s .outputs) + countOf (waiting a k s) n + countOf (rooted s) n) n a k s
+      B = record { total = omega arith; table = I .table }
+
+      module _ (t : ℕ) (N : Near s (label s (getD (cluster s k .pixels) 0 0)) t) where
+        d : k ≢ t
+        d = k≢t a k s G pos e t N
+
+        ks : k < length (s .clusters)
+        ks = k-slot a k s G pos e t N
+
+        ts : t < length (s .clusters)
+        ts = t-slot a k s G pos e t N
+
+        merge-inner : Inner (merge k t s)
+        unfolding merge withResidue withCluster emptied
+        merge-inner = record {
+          table = M .table ∙ I .table;
+          rects = three k t (λ j. OnImage w h (cluster u j .rect)) (subst (λ c. OnImage w h (c .rect)) (sym from) (no-rect w h))
+              (subst (λ c. OnImage w h (c .rect)) (sym to) (both-rects w h (cluster s t .rect) (cluster s k .rect) (I .rects t) (I .rects k)))
+              (λ j m l. subst (λ c. OnImage w h (c .rect)) (sym (M .other j m l)) (I .rects j));
+          residues = three k t (λ j. Fits (w * h) (cluster u j .residue)) (subst (λ c. Fits (w * h) (c .residue)) (sym from) (I .residues k))
+              (residue-fits (merge-going a k s G pos e t N .sound) t (getD (cluster s k .pixels) 0 0, plain-to (ledger (s .log)) k t d (getD (cluster s k .pixels) 0 0) (stands a k s G pos e)))
+              (λ j m l. subst (λ c. Fits (w * h) (c .residue)) (sym (M .other j m l)) (I .residues j));
+          into = three k t (λ j. cluster u j .mergedInto < n) (subst (λ c. c .mergedInto < n) (sym from) (I .into k)) (subst (λ c. c .mergedInto < n) (sym to) (I .into t))
+              (λ j m l. subst (λ c. c .mergedInto < n) (sym (M .other j m l)) (I .into j));
+          depths = three k t (λ j. cluster u j .depth + countOf (rooted u) n ≤ w * h) (omega (arith, ap (λ c. c .depth) from, I .depths k, less)) (omega (arith, ap (λ c. c .depth) to, I .depths t, less))
+              (λ j m l. omega (arith, ap (λ c. c .depth) (M .other j m l), I .depths j, less));
+          holes = three k t (λ j. length (cluster u j .holes) ≤ cluster u j .depth) (subst (λ c. length (c .holes) ≤ c .depth) (sym from) (I .holes k)) (subst (λ c. length (c .holes) ≤ c .depth) (sym to) (I .holes t))
+              (λ j m l. subst (λ c. length (c .holes) ≤ c .depth) (sym (M .other j m l)) (I .holes j));
+          children = three k t (λ j. Below n (cluster u j .holes)) (subst (λ c. Below n (c .holes)) (sym from) (I .children k)) (subst (λ c. Below n (c .holes)) (sym to) (I .children t))
+              (λ j m l. subst (λ c. Below n (c .holes)) (sym (M .other j m l)) (I .children j));
+          outputs = I .outputs;
+        }
+          where
+            u : State
+            u = merge k t s
+
+            M : Moved k t s (merge k t s)
+            M = merge-moved k t s d ks ts
+
+            from : cluster (merge k t s) k ≡ emptied (cluster s k)
+            from = merge-f k t s d ks ts
+
+            to : cluster (merge k t s) t ≡ withResidue (cluster s t .residue ⊕ cluster s k .residue) (withCluster (cluster s k) (cluster s t))
+            to = merge-t k t s d ks ts
+
+            less : countOf (rooted (merge k t s)) n < countOf (rooted s) n
+            less = fewer-roots a k s G B pos e fits t N M (λ r. omega (arith, r .0, ap area from)) (M .table)
+
+        deepen-inner : (b : Bool) → Inner (deepen b k t s)
+        unfolding deepen mergedTo withCluster deeper
+        deepen-inner b = record {
+          table = M .table ∙ I .table;
+          rects = three k t (λ j. OnImage w h (cluster u j .rect)) (subst (λ c. OnImage w h (c .rect)) (sym from) (I .rects k))
+              (subst (λ c. OnImage w h (c .rect)) (sym to) (both-rects w h (cluster s t .rect) (cluster s k .rect) (I .rects t) (I .rects k)))
+              (λ j m l. subst (λ c. OnImage w h (c .rect)) (sym (M .other j m l)) (I .rects j));
+          residues = three k t (λ j. Fits (w * h) (cluster u j .residue)) (subst (λ c. Fits (w * h) (c .residue)) (sym from) (I .residues k)) (subst (λ c. Fits (w * h) (c .residue)) (sym to) (I .residues t))
+              (λ j m l. subst (λ c. Fits (w * h) (c .residue)) (sym (M .other j m l)) (I .residues j));
+          into = three k t (λ j. cluster u j .mergedInto < n) (subst (λ c. c .mergedInto < n) (sym from) (subst (λ m. t < m) (I .table) ts)) (subst (λ c. c .mergedInto < n) (sym to) (I .into t))
+              (λ j m l. subst (λ c. c .mergedInto < n) (sym (M .other j m l)) (I .into j));
+          depths = three k t (λ j. cluster u j .depth + countOf (rooted u) n ≤ w * h) (omega (arith, ap (λ c. c .depth) from, I .depths k, less)) (omega (arith, ap (λ c. c .depth) to, I .depths t, less))
+              (λ j m l. omega (arith, ap (λ c. c .depth) (M .other j m l), I .depths j, less));
+          holes = three k t (λ j. length (cluster u j .holes) ≤ cluster u j .depth) (subst (λ c. length (c .holes) ≤ c .depth) (sym from) (I .holes k)) (subst (λ c. length (c .holes) ≤ c .depth) (sym to) (more b))
+              (λ j m l. subst (λ c. length (c .holes) ≤ c .depth) (sym (M .other j m l)) (I .holes j));
+          children = three k t (λ j. Below n (cluster u j .holes)) (subst (λ c. Below n (c .holes)) (sym from) (I .children k)) (subst (λ c. Below n (c .holes)) (sym to) (one b))
+              (λ j m l. subst (λ c. Below n (c .holes)) (sym (M .other j m l)) (I .children j));
+          outputs = below-snoc n k (s .outputs) (I .outputs) fits;
+        }
+          where
+            u : State
+            u = deepen b k t s
+
+            M : Moved k t s (deepen b k t s)
+            M = deepen-moved k t s d ks ts b
+
+            from : cluster (deepen b k t s) k ≡ mergedTo t (cluster s k)
+            from = deepen-f k t s d ks ts b
+
+            to : cluster (deepen b k t s) t ≡ deeper b k (withCluster (cluster s k) (cluster s t))
+            to = deepen-t k t s d ks ts b
+
+            less : countOf (rooted (deepen b k t s)) n < countOf (rooted s) n
+            less = fewer-roots a k s G B pos e fits t N M (λ r. N .0 (sym (ap (λ c. c .mergedInto) from) ∙ r .1)) (M .table)
+
+            more : (y : Bool) → length (if y then cluster s t .holes ++ (k ∷ []) else cluster s t .holes) ≤ cluster s t .depth + 1
+            more true = omega (arith, length-append (cluster s t .holes) (k ∷ []), I .holes t)
+            more false = omega (arith, I .holes t)
+
+            one : (y : Bool) → Below n (if y then cluster s t .holes ++ (k ∷ []) else cluster s t .holes)
+            one true = below-snoc n k (cluster s t .holes) (I .children t) fits
+            one false = I .children t
+
+    visit-inner : (o : RunnerConfig) (a k : ℕ) (s : State) → Going image (w * h) a k s → 0 < a → area (cluster s k) ≡ a → Inner s → Inner (visit o w h a k s)
+    visit-inner o a k s G pos e I =
+        visit-cases o w h a k s Inner (λ x. I) (λ z l. put-inner k s (fits a k s G I pos e) I) (λ z l y. isolated-cases o w h a k s Inner (put-inner k s (fits a k s G I pos e) I) I)
+        (λ z l t N. merge-inner a k s G I pos e t N) (λ z l t N b. deepen-inner a k s G I pos e t N b)
+
+    -- with the ledger, all ranges
+    ranged : (s : State) → Sound image (w * h) (ledger (s .log)) (owned (s .log)) s → 0 < n → n ≤ w * h + 1 → Inner s → Ranged w h s
+    unfolding link
+    ranged s S pos few I = record {
+      slots = omega (arith, I .table);
+      labels = λ p. named p (ℕ-discrete (label s p) 0);
+      links = λ p. after-le (w * h) p (cluster s (label s p) .pixels) (pixels (label s p));
+      firsts = λ k. begins-le (w * h) (cluster s k .pixels) (pixels k);
+      areas = area-le C;
+      rects = I .rects;
+      sums = sum-fits C;
+      residues = I .residues;
+      into = λ k. subst (λ m. cluster s k .mergedInto < m) (sym (I .table)) (I .into k);
+      depths = λ k. omega (arith, I .depths k);
+      holes = λ k. omega (arith, I .depths k, I .holes k);
+      children = kids;
+      firstChild = λ k. begins-le (length (s .clusters)) (cluster s k .holes) (kids k);
+      nextChild = λ k. after-le (length (s .clusters)) k (cluster s (cluster s k .mergedInto) .holes) (kids (cluster s k .mergedInto));
+      outputs = subst (λ m. Below m (s .outputs)) (sym (I .table)) (I .outputs);
+    }
+      where
+        C : Basic image (w * h) (ledger (s .log)) s
+        C = S .basic
+
+        kids : (k : ℕ) → Below (length (s .clusters)) (cluster s k .holes)
+        kids k = subst (λ m. Below m (cluster s k .holes)) (sym (I .table)) (I .children k)
+
+        pixels : (k : ℕ) → Below (w * h) (cluster s k .pixels)
+        pixels k = occurs-below (w * h) (cluster s k .pixels) (λ p z. subst (λ m. p < m) (C .width) (C .places k p (bit-T (ledger (s .log) k p) (λ y. z (C .lists k p ∙ y)))))
+
+        named : (p : ℕ) → Dec (label s p ≡ 0) → label s p < length (s .clusters)
+        named p (yes z) = omega (arith, I .table)
+        named p (no z) = C .slots (label s p) p (C .shown p z)
+
+  module _ (o : RunnerConfig) (w h : ℕ) where
+    start-inner : Inner w h (length (stage1 o w h image .clusters)) (prepareStage2 (stage1 o w h image))
+    unfolding prepareStage2 withResidue
+    start-inner = record {
+      table = length-map (stage1 o w h image .clusters) (λ c. withResidue (c .sum) c);
+      rects = λ k. subst (λ c. OnImage w h (c .rect)) (sym (settled s k)) (stage1-slots o w h image k .rect);
+      residues = λ k. subst (λ c. Fits (w * h) (c .residue)) (sym (settled s k)) (subst (Fits (w * h)) (sym (E .basic .sums k)) (tally-fits (ledger (s .log) k) (w * h)));
+      into = λ k. omega (arith, ap (λ c. c .mergedInto) (settled s k), E .roots k, E .room, E .some);
+      depths = λ k. omega (
+        arith,
+        ap (λ c. c .depth) (settled s k),
+        stage1-slots o w h image k .depth,
+        countOf-le (rooted (prepareStage2 s)) (standing s) (λ j x. stood j (root-out (prepareStage2 s) j x)) n,
+        E .few n (omega arith),
+      );
+      holes = λ k. omega (arith, ap (λ c. length (c .holes)) (settled s k), ap length (stage1-slots o w h image k .holes));
+      children = λ k. subst (λ c. Below n (c .holes)) (sym (settled s k)) (subst (Below n) (sym (stage1-slots o w h image k .holes)) tt);
+      outputs = subst (Below n) (sym (E .quiet)) tt;
+    }
+      where
+        s : State
+        s = stage1 o w h image
+
+        n : ℕ
+        n = length (s .clusters)
+
+        E : Early image (w * h) (Discarded o image) (T (keyingOn o)) (w * h) s
+        E = early o w h image
+
+        stood : (j : ℕ) → Root (prepareStage2 s) j → T (standing s j)
+        stood j r = lt→ltb 0 (area (cluster s j)) (subst (λ c. 0 < area c) (settled s j) (r .0))
+
+    some-slots : 0 < length (stage1 o w h image .clusters)
+    some-slots = omega (arith, early o w h image .room, early o w h image .some)
+
+    few-slots : length (stage1 o w h image .clusters) ≤ w * h + 1
+    few-slots = omega (arith, early o w h image .short)
+
+    -- at every moment
+    pub moments-ranged : Each (Ranged w h) (moments o w h image)
+    moments-ranged = each-map (λ u. Between image (w * h) u × Inner w h (length (stage1 o w h image .clusters)) u) (Ranged w h) (moments o w h image)
+        (λ u x. ranged w h (length (stage1 o w h image .clusters)) u (x .0 .2 .sound) some-slots few-slots (x .1))
+        (moments-keep o w h image (Inner w h (length (stage1 o w h image .clusters))) (visit-inner w h (length (stage1 o w h image .clusters)) o) start-inner)
+
+    -- before and after every turn
+    pub turns-ranged : (m : ℕ) → Ranged w h (turns o w h m (start (prepareStage2 (stage1 o w h image))) .now)
+    unfolding start
+    turns-ranged m =
+        let R = turns-keep o w h (Inner w h (length (stage1 o w h image .clusters))) (visit-inner w h (length (stage1 o w h image .clusters)) o) (start (prepareStage2 (stage1 o w h image))) (start-turning o w h image, start-inner) m in
+        ranged w h (length (stage1 o w h image .clusters)) (turns o w h m (start (prepareStage2 (stage1 o w h image))) .now) (R .0 .going .sound) some-slots few-slots (R .1)
+
+    dropEmpty-ranged : (s : State) → Ranged w h s → Ranged w h (dropEmpty s)
+    unfolding dropEmpty link
+    dropEmpty-ranged s A = record {
+      slots = A .slots;
+      labels = A .labels;
+      links = A .links;
+      firsts = A .firsts;
+      areas = A .areas;
+      rects = A .rects;
+      sums = A .sums;
+      residues = A .residues;
+      into = A .into;
+      depths = A .depths;
+      holes = A .holes;
+      children = A .children;
+      firstChild = A .firstChild;
+      nextChild = A .nextChild;
+      outputs = below-keep (length (s .clusters)) (λ k. ltb 0 (cluster s k .sum .count)) (s .outputs) (A .outputs);
+    }
+
+    -- as the run returns them
+    pub run-ranged : Ranged w h (run o w h image)
+    unfolding run
+    run-ranged =
+        let R = stage2-keep o w h image (Inner w h (length (stage1 o w h image .clusters))) (visit-inner w h (length (stage1 o w h image .clusters)) o) start-inner in
+        dropEmpty-ranged (stage2 o w h (stage1 o w h image)) (ranged w h (length (stage1 o w h image .clusters)) (stage2 o w h (stage1 o w h image)) (R .0 .sound) some-slots few-slots (R .1))
+
+-- no total of up to 2^20 pixels passes 2^32 - 1
+pub fits-total : (size : ℕ) (x : ColorSum) → size ≤ 1048576 → Fits size x
+    → (x .r ≤ largestTotal) × (x .g ≤ largestTotal) × (x .b ≤ largestTotal) × (x .a ≤ largestTotal) × (x .count ≤ largestTotal)
+fits-total size x l F = (omega (arith, F .r, F .count), omega (arith, F .g, F .count), omega (arith, F .b, F .count), omega (arith, F .a, F .count), omega (arith, F .count))
+
+-- so refusal 7 is never met
+pub never-seven : (size : ℕ) (x y : ColorSum) → size ≤ 1048576 → Fits size (x ⊕ y) → sumAnswer x y ≡ 0
+unfolding sumAnswer _⊕_
+never-seven size x y l F =
+    let t = fits-total size (x ⊕ y) l F in
+    rw (not-above (x .r + y .r) (t .0), not-above (x .g + y .g) (t .1), not-above (x .b + y .b) (t .2), not-above (x .a + y .a) (t .3), not-above (x .count + y .count) (t .4))
+  where
+    not-above : (z : ℕ) → z ≤ largestTotal → ltb largestTotal z ≡ false
+    not-above z l = is-false (ltb largestTotal z) (λ t. omega (arith, ltb→lt largestTotal z t))

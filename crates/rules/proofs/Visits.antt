@@ -1,0 +1,246 @@
+-- Stage 2 keeps what holds: each visit, each pass, all of them.
+use mathlib.Core.Path.{_≡_, refl, sym, ap, _∙_, subst}
+use mathlib.Core.Logic.{_≢_, _⊎_, inl, inr}
+use mathlib.Core.Bool.{Bool, true, false, not, _&&_, _||_, true≢false}
+use mathlib.Core.List.{List, [], _∷_, _++_}
+use mathlib.Core.Option.{Option, some}
+use mathlib.Core.Option.{none as off}
+use Prim.Native.Nat.{ℕ, zero, suc, _+_, _≤_, _<_}
+use native.Mathlib.Decide.{ℕ-discrete}
+use native.Mathlib.Omega.{arith}
+use lib.Dec.{T, eqb, ltb, leb, eqb→eq, ltb→lt, nltb→le}
+use lib.ListN.{length, getD}
+use Rattle.rules.specs.Base.{if_then_else_, noneAbove, times, insert, least}
+use Rattle.rules.specs.Color.{RunnerConfig, discards}
+use Rattle.rules.specs.Grid.{sides}
+use Rattle.rules.specs.State.{State, cluster, label, area, emptied, mergedTo, put, merge, deepen, plain, deepened}
+use Rattle.rules.specs.Stage2.{labelsAt, labelsAround, neighbours, rank, deepens, isolated, mergeInto, decide, visit, pass, passes}
+use Rattle.rules.specs.Ledger.{Held, enter, ledger, owned}
+use Rattle.rules.specs.Claim.{bit, occurs, tally, Stands}
+use Rattle.rules.proofs.Facts.{is-true, is-false, eqb-yes, eqb-no, bit-T}
+use Rattle.rules.proofs.Basic.{Basic, Moved, three, merge-f, merge-moved, deepen-f, deepen-moved}
+use Rattle.rules.proofs.Sound.{Sound, plain-sound, deepened-sound}
+
+-- what each of n steps keeps, n steps keep
+pub times-keep {ℓ κ} : {S : Type ℓ} (I : ℕ → S → Type κ) (f : ℕ → S → S) → ((i : ℕ) (s : S) → I i s → I (suc i) (f i s)) → (s : S) → I 0 s → (n : ℕ) → I n (times n f s)
+times-keep I f step s z zero = z
+times-keep I f step s z (suc n) = step n (times n f s) (times-keep I f step s z n)
+
+pub eqb-ne : (m n : ℕ) → eqb m n ≡ false → m ≢ n
+eqb-ne m n e x = true≢false (sym (eqb-yes m n x) ∙ e)
+
+pub eqb-is : (m n : ℕ) → eqb m n ≡ true → m ≡ n
+eqb-is m n e = eqb→eq m n (subst T (sym e) tt)
+
+-- ---- every entry of a list
+
+abbrev pub All : (ℕ → Type 0) → List ℕ → Type 0
+All P [] = Unit {0}
+All P (x ∷ xs) = P x × All P xs
+
+pub insert-all : (P : ℕ → Type 0) (a : ℕ) (xs : List ℕ) → P a → All P xs → All P (insert a xs)
+insert-all P a [] p q = (p, tt)
+insert-all P a (x ∷ xs) p q = pick (ltb a x) (eqb a x) (insert-all P a xs p (q .1))
+  where
+    pick : (b c : Bool) → All P (insert a xs) → All P (if b then a ∷ x ∷ xs else (if c then x ∷ xs else x ∷ insert a xs))
+    pick true c r = (p, q)
+    pick false true r = q
+    pick false false r = (q .0, r)
+
+pub least-all : (P : ℕ → Type 0) (key : ℕ → ℕ) (x : ℕ) (xs : List ℕ) → P x → All P xs → P (least key x xs)
+least-all P key x [] p q = p
+least-all P key x (y ∷ ys) p q = pick (ltb (key y) (key x)) (least-all P key y ys (q .0) (q .1)) (least-all P key x ys p (q .1))
+  where
+    pick : (b : Bool) → P (least key y ys) → P (least key x ys) → P (if b then least key y ys else least key x ys)
+    pick true u v = u
+    pick false u v = v
+
+-- ---- neighbours
+
+-- t is the label of a pixel, and neither 0 nor own
+abbrev pub Near : State → ℕ → ℕ → Type 0
+Near s own t = (t ≢ 0) × (t ≢ own) × ((i : ℕ) × (label s i ≡ t))
+
+module _ (o : RunnerConfig) (w h : ℕ) where
+  labelsAt-near : (s : State) (own : ℕ) (is : List (Option ℕ)) (found : List ℕ) → All (Near s own) found → All (Near s own) (labelsAt s own is found)
+  unfolding labelsAt
+  labelsAt-near s own [] found a = a
+  labelsAt-near s own (off ∷ is) found a = labelsAt-near s own is found a
+  labelsAt-near s own (some i ∷ is) found a =
+      labelsAt-near s own is (if eqb (label s i) 0 || eqb (label s i) own then found else insert (label s i) found)
+      (pick (eqb (label s i) 0) refl (eqb (label s i) own) refl)
+    where
+      pick : (b : Bool) → eqb (label s i) 0 ≡ b → (c : Bool) → eqb (label s i) own ≡ c → All (Near s own) (if b || c then found else insert (label s i) found)
+      pick true e c d = a
+      pick false e true d = a
+      pick false e false d = insert-all (Near s own) (label s i) found (eqb-ne (label s i) 0 e, eqb-ne (label s i) own d, (i, refl)) a
+
+  around4-near : (s : State) (own : ℕ) (ps found : List ℕ) → All (Near s own) found → All (Near s own) (labelsAround w h s own ps found)
+  unfolding labelsAround
+  around4-near s own [] found a = a
+  around4-near s own (p ∷ ps) found a = around4-near s own ps (labelsAt s own (sides w h p) found) (labelsAt-near s own (sides w h p) found a)
+
+  pub neighbours-near : (s : State) (k : ℕ) → All (Near s (label s (getD (cluster s k .pixels) 0 0))) (neighbours w h s k)
+  unfolding neighbours
+  neighbours-near s k = around4-near s (label s (getD (cluster s k .pixels) 0 0)) (cluster s k .pixels) [] tt
+
+-- what a visit can do, with why it deepened: nothing; put out (area above hierarchical); what a cluster with no neighbour does; merge, plainly or deepening
+pub visit-cases-why {ℓ} : (o : RunnerConfig) (w h a k : ℕ) (s : State) (P : State → Type ℓ)
+    → (area (cluster s k) ≢ a → P s)
+    → (area (cluster s k) ≡ a → o .hierarchical < a → P (put k s))
+    → (area (cluster s k) ≡ a → a ≤ o .hierarchical → neighbours w h s k ≡ [] → P (isolated o a k s))
+    → (area (cluster s k) ≡ a → a ≤ o .hierarchical → (t : ℕ) → Near s (label s (getD (cluster s k .pixels) 0 0)) t → P (merge k t s))
+    → (area (cluster s k) ≡ a → a ≤ o .hierarchical → (t : ℕ) → Near s (label s (getD (cluster s k .pixels) 0 0)) t → (hollow : Bool) → deepens o w h s k t ≡ true → P (deepen hollow k t s))
+    → P (visit o w h a k s)
+unfolding visit decide mergeInto
+visit-cases-why o w h a k s P idle out lone plainly deeply = pick (eqb (area (cluster s k)) a) refl (ltb (o .hierarchical) a) refl
+  where
+    own : ℕ
+    own = label s (getD (cluster s k .pixels) 0 0)
+
+    goes : area (cluster s k) ≡ a → a ≤ o .hierarchical → (t : ℕ) → Near s own t → (hollow b : Bool) → deepens o w h s k t ≡ b → P (if b then deepen hollow k t s else merge k t s)
+    goes e l t N hollow true z = deeply e l t N hollow z
+    goes e l t N hollow false z = plainly e l t N
+
+    some-of : area (cluster s k) ≡ a → a ≤ o .hierarchical → (ns : List ℕ) → neighbours w h s k ≡ ns → All (Near s own) ns → P (decide o w h a k ns s)
+    some-of e l [] z N = lone e l z
+    some-of e l (x ∷ xs) z N =
+        goes e l (least (rank s k) x xs) (least-all (Near s own) (rank s k) x xs (N .0) (N .1)) (leb (length (x ∷ xs)) (o .hollowNeighbours)) (deepens o w h s k (least (rank s k) x xs)) refl
+
+    pick : (b : Bool) → eqb (area (cluster s k)) a ≡ b → (c : Bool) → ltb (o .hierarchical) a ≡ c → P (if b then (if c then put k s else decide o w h a k (neighbours w h s k) s) else s)
+    pick true e true z = out (eqb-is (area (cluster s k)) a e) (ltb→lt (o .hierarchical) a (subst T (sym z) tt))
+    pick true e false z = some-of (eqb-is (area (cluster s k)) a e) (nltb→le (o .hierarchical) a (subst (λ b. T (not b)) (sym z) tt)) (neighbours w h s k) refl (neighbours-near o w h s k)
+    pick false e c z = idle (eqb-ne (area (cluster s k)) a e)
+
+-- what a visit can do: nothing; put out (area above hierarchical); what a cluster with no neighbour does; merge, plainly or deepening
+pub visit-cases {ℓ} : (o : RunnerConfig) (w h a k : ℕ) (s : State) (P : State → Type ℓ)
+    → (area (cluster s k) ≢ a → P s)
+    → (area (cluster s k) ≡ a → o .hierarchical < a → P (put k s))
+    → (area (cluster s k) ≡ a → a ≤ o .hierarchical → neighbours w h s k ≡ [] → P (isolated o a k s))
+    → (area (cluster s k) ≡ a → a ≤ o .hierarchical → (t : ℕ) → Near s (label s (getD (cluster s k .pixels) 0 0)) t → P (merge k t s))
+    → (area (cluster s k) ≡ a → a ≤ o .hierarchical → (t : ℕ) → Near s (label s (getD (cluster s k .pixels) 0 0)) t → (hollow : Bool) → P (deepen hollow k t s))
+    → P (visit o w h a k s)
+visit-cases o w h a k s P idle out lone plainly deeply = visit-cases-why o w h a k s P idle out lone plainly (λ e l t N b z. deeply e l t N b)
+
+-- and what a cluster with no neighbour does: put out, or nothing
+pub isolated-cases {ℓ} : (o : RunnerConfig) (w h a k : ℕ) (s : State) (P : State → Type ℓ) → P (put k s) → P s → P (isolated o a k s)
+unfolding isolated
+isolated-cases o w h a k s P x y = pick (noneAbove a (s .listed) || discards o)
+  where
+    pick : (b : Bool) → P (if b then put k s else s)
+    pick true = x
+    pick false = y
+
+occurs-first : (xs : List ℕ) → 0 < length xs → occurs (getD xs 0 0) xs ≢ 0
+occurs-first [] z e = absurd (omega arith)
+occurs-first (x ∷ xs) z e = let y : bit (eqb x x) ≡ 1 = ap bit (eqb-yes x x refl) in omega arith
+
+-- ---- the state between visits: before slot k is visited at area a
+
+pub record Going (image : List ℕ) (size : ℕ) (a k : ℕ) (s : State) : Type 0 where
+  pub sound : Sound image size (ledger (s .log)) (owned (s .log)) s
+  -- a cluster inside another was visited before
+  pub past : (j : ℕ) → cluster s j .mergedInto ≢ 0 → (area (cluster s j) < a) ⊎ ((area (cluster s j) ≡ a) × (j < k))
+
+module _ {image : List ℕ} {size : ℕ} where
+  pub later : {a k : ℕ} {s : State} → Going image size a k s → Going image size a (suc k) s
+  later {a} {k} {s} G = record { sound = G .sound; past = λ j x. pick j (G .past j x) }
+    where
+      pick : (j : ℕ) → (area (cluster s j) < a) ⊎ ((area (cluster s j) ≡ a) × (j < k)) → (area (cluster s j) < a) ⊎ ((area (cluster s j) ≡ a) × (j < suc k))
+      pick j (inl x) = inl x
+      pick j (inr x) = inr (x .0, omega arith)
+
+  put-sound : {h O : Held} {s : State} (k : ℕ) → Sound image size h O s → Sound image size h O (put k s)
+  unfolding put
+  put-sound k S = record {
+    basic = record { lists = S .basic .lists; sums = S .basic .sums; shown = S .basic .shown; places = S .basic .places; slots = S .basic .slots; width = S .basic .width };
+    residues = S .residues;
+    owns = S .owns;
+    forest = S .forest;
+    tops = S .tops;
+    labels-top = S .labels-top;
+  }
+
+  pub put-going : {a k : ℕ} {s : State} (j : ℕ) → Going image size a k s → Going image size a k (put j s)
+  unfolding put
+  put-going j G = record { sound = put-sound j (G .sound); past = G .past }
+
+  module _ (a k : ℕ) (s : State) (G : Going image size a k s) (pos : 0 < a) (e : area (cluster s k) ≡ a) where
+    abbrev pub first : ℕ
+    first = getD (cluster s k .pixels) 0 0
+
+    pub stands : T (ledger (s .log) k first)
+    stands = bit-T (ledger (s .log) k first) (λ z. occurs-first (cluster s k .pixels) (omega arith) (G .sound .basic .lists k first ∙ z))
+
+    pub root : cluster s k .mergedInto ≡ 0
+    root = pick (ℕ-discrete (cluster s k .mergedInto) 0)
+      where
+        never : (area (cluster s k) < a) ⊎ ((area (cluster s k) ≡ a) × (k < k)) → ⊥
+        never (inl x) = omega arith
+        never (inr x) = omega arith
+
+        pick : Dec (cluster s k .mergedInto ≡ 0) → cluster s k .mergedInto ≡ 0
+        pick (yes z) = z
+        pick (no z) = absurd (never (G .past k z))
+
+    pub mine : label s first ≡ k
+    mine = G .sound .tops k first stands root
+
+    module _ (t : ℕ) (N : Near s (label s first) t) where
+      pub target-stands : Stands (ledger (s .log)) t
+      target-stands = (N .2 .0, subst (λ m. T (ledger (s .log) m (N .2 .0))) (N .2 .1) (G .sound .basic .shown (N .2 .0) (λ z. N .0 (sym (N .2 .1) ∙ z))))
+
+      pub target-root : cluster s t .mergedInto ≡ 0
+      unfolding target-stands
+      target-root = subst (λ m. cluster s m .mergedInto ≡ 0) (N .2 .1) (G .sound .labels-top t (target-stands .0) (target-stands .1))
+
+      pub k≢t : k ≢ t
+      k≢t z = N .1 (sym z ∙ sym mine)
+
+      pub k-slot : k < length (s .clusters)
+      k-slot = G .sound .basic .slots k first stands
+
+      pub t-slot : t < length (s .clusters)
+      t-slot = G .sound .basic .slots t (target-stands .0) (target-stands .1)
+
+      kept : {s′ : State} → Moved k t s s′ → (cluster s′ k .mergedInto ≢ 0 → (area (cluster s′ k) < a) ⊎ ((area (cluster s′ k) ≡ a) × (k < suc k)))
+          → (j : ℕ) → cluster s′ j .mergedInto ≢ 0 → (area (cluster s′ j) < a) ⊎ ((area (cluster s′ j) ≡ a) × (j < suc k))
+      kept {s′} M x =
+          three k t (λ j. cluster s′ j .mergedInto ≢ 0 → (area (cluster s′ j) < a) ⊎ ((area (cluster s′ j) ≡ a) × (j < suc k)))
+          x (λ z. absurd (z (M .t-merged ∙ target-root)))
+          (λ j u v. subst (λ c. c .mergedInto ≢ 0 → (area c < a) ⊎ ((area c ≡ a) × (j < suc k))) (sym (M .other j u v)) (later G .past j))
+
+      pub merge-going : Going image size a (suc k) (merge k t s)
+      unfolding merge emptied
+      merge-going = record {
+        sound = plain-sound (G .sound) k t k≢t root target-root (first, stands) target-stands;
+        past = kept (merge-moved k t s k≢t k-slot t-slot) (λ z. absurd (z (ap (λ c. c .mergedInto) (merge-f k t s k≢t k-slot t-slot) ∙ root)));
+      }
+
+      pub deepen-going : (hollow : Bool) → Going image size a (suc k) (deepen hollow k t s)
+      unfolding deepen mergedTo
+      deepen-going hollow = record {
+        sound = deepened-sound (G .sound) k t k≢t root target-root (first, stands) target-stands hollow (N .0);
+        past = kept (deepen-moved k t s k≢t k-slot t-slot hollow) (λ z. inr (ap area (deepen-f k t s k≢t k-slot t-slot hollow) ∙ e, omega arith));
+      }
+
+  pub visit-going : (o : RunnerConfig) (w h a k : ℕ) (s : State) → Going image size a k s → 0 < a → Going image size a (suc k) (visit o w h a k s)
+  visit-going o w h a k s G pos =
+      visit-cases o w h a k s (Going image size a (suc k)) (λ x. later G) (λ e l. put-going k (later G))
+      (λ e l z. isolated-cases o w h a k s (Going image size a (suc k)) (put-going k (later G)) (later G))
+      (λ e l t N. merge-going a k s G pos e t N) (λ e l t N b. deepen-going a k s G pos e t N b)
+
+  pub pass-going : (o : RunnerConfig) (w h a : ℕ) (s : State) → Going image size (suc a) 0 s → Going image size (suc (suc a)) 0 (pass o w h (suc a) s)
+  unfolding pass
+  pass-going o w h a s G = record { sound = end .sound; past = λ j x. pick j (end .past j x) }
+    where
+      end : Going image size (suc a) (length (s .clusters)) (times (length (s .clusters)) (visit o w h (suc a)) s)
+      end = times-keep (λ k u. Going image size (suc a) k u) (visit o w h (suc a)) (λ k u H. visit-going o w h (suc a) k u H (omega arith)) s G (length (s .clusters))
+
+      pick : (j : ℕ) {x : ℕ} → (x < suc a) ⊎ ((x ≡ suc a) × (j < length (s .clusters))) → (x < suc (suc a)) ⊎ ((x ≡ suc (suc a)) × (j < 0))
+      pick j (inl y) = inl (omega arith)
+      pick j (inr y) = inl (omega arith)
+
+  pub passes-going : (o : RunnerConfig) (w h : ℕ) (s : State) → Going image size 1 0 s → (n : ℕ) → Going image size (suc n) 0 (passes o w h n s)
+  unfolding passes
+  passes-going o w h s G = times-keep (λ a u. Going image size (suc a) 0 u) (λ a. pass o w h (suc a)) (pass-going o w h) s G

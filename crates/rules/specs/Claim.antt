@@ -1,0 +1,57 @@
+-- The words that demand 3 is said with: how often a list names a pixel, totals, counts, standing, holding.
+--
+use mathlib.Core.Path.{_≡_}
+use mathlib.Core.Logic.{_↔_, _≢_, _⊎_}
+use mathlib.Core.Bool.{Bool, true, false}
+use mathlib.Core.List.{List, [], _∷_}
+use Prim.Native.Nat.{ℕ, zero, suc, _+_, _*_, _≤_, _<_}
+use lib.Dec.{T, eqb}
+use lib.ListN.{length}
+use Rattle.rules.specs.Base.{if_then_else_}
+use Rattle.rules.specs.Color.{Color, ColorSum, zeroSum, one, _⊕_, pixel, average}
+use Rattle.rules.specs.State.{State, Cluster, cluster, label}
+use Rattle.rules.specs.Ledger.{Held}
+
+abbrev pub bit : Bool → ℕ
+bit true = 1
+bit false = 0
+
+-- how often p is named
+abbrev pub occurs : ℕ → List ℕ → ℕ
+occurs p [] = 0
+occurs p (x ∷ xs) = bit (eqb p x) + occurs p xs
+
+-- the total of the colours of the chosen ones of pixels 0 .. n - 1
+unfoldable pub tally : List ℕ → (ℕ → Bool) → ℕ → ColorSum
+tally image f zero = zeroSum
+tally image f (suc n) = if f n then tally image f n ⊕ one (pixel image n) else tally image f n
+
+-- how many of the pixels 0 .. n - 1 are chosen
+unfoldable pub countOf : (ℕ → Bool) → ℕ → ℕ
+countOf f zero = 0
+countOf f (suc n) = bit (f n) + countOf f n
+
+abbrev pub Stands : Held → ℕ → Type 0
+Stands h k = (p : ℕ) × T (h k p)
+
+-- k holds j
+abbrev pub Holds : Held → ℕ → ℕ → Type 0
+Holds h k j = (p : ℕ) → T (h j p) → T (h k p)
+
+-- p is held by k, and by no standing cluster strictly inside k
+abbrev pub InResidue : Held → ℕ → ℕ → ℕ → Type 0
+InResidue h size k p = T (h k p) × ((j : ℕ) → Holds h k j → countOf (h j) size < countOf (h k) size → T (h j p) → ⊥)
+
+-- k is the smallest standing cluster that holds p
+abbrev pub Smallest : Held → ℕ → ℕ → ℕ → Type 0
+Smallest h size p k = T (h k p) × ((j : ℕ) → T (h j p) → j ≢ k → countOf (h k) size < countOf (h j) size)
+
+-- what painting asks of an output entry k, with n slots: refusals 8, 9 and the first half of 10 do not arise
+pub record Paintable (size n : ℕ) (c : Cluster) (k : ℕ) : Type 0 where
+  pub slot : k < n
+  pub some : 0 < c .residue .count
+  pub r : c .residue .r ≤ 255 * c .residue .count
+  pub g : c .residue .g ≤ 255 * c .residue .count
+  pub b : c .residue .b ≤ 255 * c .residue .count
+  pub a : c .residue .a ≤ 255 * c .residue .count
+  pub pixels : length (c .pixels) ≤ size

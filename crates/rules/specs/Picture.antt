@@ -1,0 +1,19 @@
+-- The picture of a state: zeros, then the outputs from last to first with the residue average (`to_color_image` of container.rs).
+use mathlib.Core.List.{List, [], _∷_, _++_}
+use Prim.Native.Nat.{ℕ, zero, suc, _+_, _*_}
+use lib.ListN.{replicate}
+use lib.Seq.{sets}
+use Rattle.rules.specs.Base.{each, eachBack}
+use Rattle.rules.specs.Color.{Color, average}
+use Rattle.rules.specs.State.{State, cluster}
+
+unfoldable pub paintPixel : Color → ℕ → List ℕ → List ℕ
+paintPixel c p picture = sets picture (4 * p) (c .r ∷ c .g ∷ c .b ∷ c .a ∷ [])
+
+unfoldable pub paintCluster : State → ℕ → List ℕ → List ℕ
+unfolding paintPixel average
+paintCluster s k picture = each (cluster s k .pixels) (paintPixel (average (cluster s k .residue))) picture
+
+unfoldable pub paint : ℕ → State → List ℕ
+unfolding paintCluster
+paint size s = eachBack (s .outputs) (paintCluster s) (replicate (4 * size) 0)

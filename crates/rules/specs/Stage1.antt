@@ -1,0 +1,79 @@
+-- Stage 1, the label of each pixel: document 01, "The label of each pixel" (`stage_1` of builder.rs).
+use mathlib.Core.Bool.{Bool, true, false, not, _&&_, _||_}
+use mathlib.Core.List.{List, [], _∷_, _++_, map}
+use mathlib.Core.Option.{Option, some}
+use mathlib.Core.Option.{none as off}
+use Prim.Native.Nat.{ℕ, zero, suc, _+_, _-_, _*_, _/_, _%_}
+use lib.Dec.{leb, ltb, eqb}
+use lib.ListN.{length, getD, set}
+use Rattle.rules.specs.Base.{if_then_else_, times}
+use Rattle.rules.specs.Color.{Color, RunnerConfig, equalColor, keyingOn, isDiscard, colorSame, pixel}
+use Rattle.rules.specs.Grid.{up, left, upLeft}
+use Rattle.rules.specs.State.{State, Cluster, fresh, cluster, label, area, pixelRect, add, beginCluster, combine}
+
+-- whether the pixels at two places are like; none is like nothing
+unfoldable pub isSame : RunnerConfig → List ℕ → Option ℕ → Option ℕ → Bool
+unfolding colorSame pixel
+isSame o image (some i) (some j) = colorSame o (pixel image i) (pixel image j)
+isSame o image (some i) off = false
+isSame o image off (some j) = false
+isSame o image off off = false
+
+-- off the image the label is 0
+unfoldable pub labelAt : State → Option ℕ → ℕ
+labelAt s (some i) = label s i
+labelAt s off = 0
+
+-- with keying on, a pixel whose four channels are the key's
+unfoldable pub isKey : RunnerConfig → List ℕ → ℕ → Bool
+unfolding keyingOn equalColor pixel
+isKey o image i = keyingOn o && equalColor (pixel image i) (o .keyColor)
+
+-- next falls by one where l, which left's cluster went with, was the number just below next and next equals the slot count
+unfoldable pub lowerNext : ℕ → State → State
+lowerNext l s = record {
+  labels = s .labels;
+  clusters = s .clusters;
+  next = if eqb (l + 1) (s .next) && eqb (s .next) (length (s .clusters)) then s .next - 1 else s .next;
+  outputs = s .outputs;
+  listed = s .listed;
+  log = s .log;
+}
+
+module _ (o : RunnerConfig) (w : ℕ) (image : List ℕ) where
+  -- step 1, the condition: the labels of left and up differ, left is like up, and the pixel is like both
+  unfoldable pub leftMeetsUp : ℕ → State → Bool
+  unfolding isSame labelAt up left
+  leftMeetsUp i s =
+      not (eqb (labelAt s (left w i)) (labelAt s (up w i)))
+      && isSame o image (left w i) (up w i) && isSame o image (some i) (left w i) && isSame o image (some i) (up w i)
+
+  -- steps 2 to 5, with l and u for the labels of left and up
+  unfoldable pub place : ℕ → ℕ → ℕ → State → State
+  unfolding isKey isSame up left upLeft pixel pixelRect add beginCluster
+  place i l u s =
+      let c = pixel image i in
+      let at = pixelRect (i % w) (i / w) in
+      if isKey o image i then (if isDiscard (o .keyingAction) then s else add i c at 0 s)
+      else (if isSame o image (some i) (up w i) && isSame o image (some i) (upLeft w i) then add i c at u s
+      else (if isSame o image (some i) (left w i) && isSame o image (some i) (upLeft w i) then add i c at l s
+      else beginCluster i c at s))
+
+  -- step 1, the merge: the smaller cluster goes into the larger, left into up on equal counts; the other steps read both labels as the survivor's
+  unfoldable pub combineThenPlace : ℕ → ℕ → ℕ → State → State
+  unfolding combine lowerNext place
+  combineThenPlace i l u s =
+      if leb (area (cluster s l)) (area (cluster s u)) then place i u u (lowerNext l (combine l u s)) else place i l l (combine u l s)
+
+  -- pixel i is taken
+  unfoldable pub takePixel : ℕ → State → State
+  unfolding leftMeetsUp combineThenPlace place labelAt up left
+  takePixel i s =
+      let l = labelAt s (left w i) in
+      let u = labelAt s (up w i) in
+      if leftMeetsUp i s then combineThenPlace i l u s else place i l u s
+
+  -- n pixels of `size` are taken, row by row
+  unfoldable pub taken : ℕ → ℕ → State
+  unfolding takePixel fresh
+  taken size n = times n takePixel (fresh size)

@@ -1,0 +1,27 @@
+-- The stored sheet: two-byte numbers, low byte first (document 01, "The picture, its rows, the stored sheet").
+use mathlib.Core.Bool.{Bool, not}
+use mathlib.Core.List.{List, [], _∷_, _++_, map}
+use Prim.Native.Nat.{ℕ, _+_, _*_, _/_, _%_}
+use lib.ListN.{length, getD, take}
+use Rattle.rules.specs.Base.{upTo, concat, noneAbove}
+use Rattle.rules.specs.Layout.{firstPixelAt, pixelCountAt}
+use Rattle.rules.specs.Paint.{slotNumber}
+
+-- w, h, n, m; label and link of each pixel; first pixel and count of each slot; the outputs
+unfoldable pub storedNumbers : ℕ → ℕ → List ℕ → List ℕ → List ℕ → List ℕ → ℕ → ℕ → List ℕ
+unfolding upTo slotNumber
+storedNumbers w h labels links table outputs n m =
+    (w ∷ h ∷ n ∷ m ∷ [])
+    ++ concat (map (λ p. getD labels p 0 ∷ getD links p 0 ∷ []) (upTo (w * h)))
+    ++ concat (map (λ k. slotNumber table k firstPixelAt ∷ slotNumber table k pixelCountAt ∷ []) (upTo n))
+    ++ take m outputs
+
+-- some number does not fit in two bytes
+unfoldable pub isLarge : List ℕ → Bool
+isLarge numbers = not (noneAbove 65535 numbers)
+
+abbrev pub twoBytes : ℕ → List ℕ
+twoBytes x = x % 256 ∷ x / 256 ∷ []
+
+unfoldable pub storedBytes : List ℕ → List ℕ
+storedBytes numbers = concat (map twoBytes numbers)
