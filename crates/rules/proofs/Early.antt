@@ -16,7 +16,7 @@ use Rattle.rules.specs.Base.{if_then_else_, times}
 use Rattle.rules.specs.Color.{Color, RunnerConfig, ColorSum, zeroSum, one, _⊕_, pixel, isDiscard}
 use Rattle.rules.specs.Grid.{up, left, upLeft}
 use Rattle.rules.specs.State.{State, Cluster, BoundingRect, newCluster, cluster, label, area, pixelRect, withPixel, emptied, withResidue, fresh, add, beginCluster, combine, added, plain}
-use Rattle.rules.specs.Stage1.{isSame, labelAt, leftMeetsUp, lowerNext, isKey, place, combineThenPlace, takePixel, taken}
+use Rattle.rules.specs.Stage1.{sameAt, labelAt, leftMeetsUp, lowerNext, isKey, place, combineThenPlace, takePixel, taken}
 use Rattle.rules.specs.Stage2.{prepareStage2}
 use Rattle.rules.specs.Ledger.{Held, enter, ledger, owned}
 use Rattle.rules.specs.Claim.{bit, occurs, tally, countOf, Stands}
@@ -461,13 +461,13 @@ module _ {image : List ℕ} {size : ℕ} {Gone : ℕ → Type 0} {Keyed : Type 0
   module _ (o : RunnerConfig) (w : ℕ) (gone : (p : ℕ) → isKey o image p ≡ true → isDiscard (o .keyingAction) ≡ true → Gone p) (keyed : (p : ℕ) → isKey o image p ≡ true → Keyed)
       (wide : (p : ℕ) → p < size → 0 < w) (only : (p : ℕ) → Gone p → (isKey o image p ≡ true) × (isDiscard (o .keyingAction) ≡ true)) where
     pub place-early : (i l u : ℕ) (s : State) → Early image size Gone Keyed i s → i < size → l < s .next → u < s .next
-        → (isSame o image (some i) (left w i) ≡ true → l ≡ 0 → Keyed) → (isSame o image (some i) (up w i) ≡ true → u ≡ 0 → Keyed)
+        → (sameAt o image (some i) (left w i) ≡ true → l ≡ 0 → Keyed) → (sameAt o image (some i) (up w i) ≡ true → u ≡ 0 → Keyed)
         → Early image size Gone Keyed (suc i) (place o w image i l u s)
     unfolding place
     place-early i l u s E fits hl hu zl zu =
         pick (isKey o image i) refl (isDiscard (o .keyingAction)) refl
-        (isSame o image (some i) (up w i) && isSame o image (some i) (upLeft w i)) refl
-        (isSame o image (some i) (left w i) && isSame o image (some i) (upLeft w i)) refl
+        (sameAt o image (some i) (up w i) && sameAt o image (some i) (upLeft w i)) refl
+        (sameAt o image (some i) (left w i) && sameAt o image (some i) (upLeft w i)) refl
       where
         at : BoundingRect
         at = pixelRect (i % w) (i / w)
@@ -509,8 +509,8 @@ module _ {image : List ℕ} {size : ℕ} {Gone : ℕ → Type 0} {Keyed : Type 0
             low p x e (no z) = E .lit p (omega arith) e
 
         pick : (b : Bool) → isKey o image i ≡ b → (d : Bool) → isDiscard (o .keyingAction) ≡ d
-            → (x : Bool) → isSame o image (some i) (up w i) && isSame o image (some i) (upLeft w i) ≡ x
-            → (y : Bool) → isSame o image (some i) (left w i) && isSame o image (some i) (upLeft w i) ≡ y
+            → (x : Bool) → sameAt o image (some i) (up w i) && sameAt o image (some i) (upLeft w i) ≡ x
+            → (y : Bool) → sameAt o image (some i) (left w i) && sameAt o image (some i) (upLeft w i) ≡ y
             → Early image size Gone Keyed (suc i) (if b then (if d then s else add i c at 0 s) else (if x then add i c at u s else (if y then add i c at l s else beginCluster i c at s)))
         pick true e true d x ex y ey = skip (gone i e d) (keyed i e)
         pick true e false d x ex y ey = add-early E fits (add-adds i 0 at s E (E .some)) (λ z. keyed i e) (λ x. true≢false (sym (only i x .1) ∙ d))
@@ -535,8 +535,8 @@ module _ {image : List ℕ} {size : ℕ} {Gone : ℕ → Type 0} {Keyed : Type 0
         pick false = place-early i l l (combine u l s) (combine-early i u l s E (λ e. n (sym e)) hu hl zl) fits hl hl (λ x. zl) (λ x. zl)
 
     -- a place beside pixel i that is like it is on the image, and was taken before
-    like-lit : (i : ℕ) (s : State) → Early image size Gone Keyed i s → (q : Option ℕ) → Earlier i q → isSame o image (some i) q ≡ true → labelAt s q ≡ 0 → Keyed
-    unfolding isSame labelAt
+    like-lit : (i : ℕ) (s : State) → Early image size Gone Keyed i s → (q : Option ℕ) → Earlier i q → sameAt o image (some i) q ≡ true → labelAt s q ≡ 0 → Keyed
+    unfolding sameAt labelAt
     like-lit i s E (some j) b e z = E .lit j b z
     like-lit i s E off b e z = absurd (true≢false (sym e))
 
@@ -550,10 +550,10 @@ module _ {image : List ℕ} {size : ℕ} {Gone : ℕ → Type 0} {Keyed : Type 0
         u : ℕ
         u = labelAt s (up w i)
 
-        pl : isSame o image (some i) (left w i) ≡ true → l ≡ 0 → Keyed
+        pl : sameAt o image (some i) (left w i) ≡ true → l ≡ 0 → Keyed
         pl = like-lit i s E (left w i) (left-earlier w i (wide i fits))
 
-        pu : isSame o image (some i) (up w i) ≡ true → u ≡ 0 → Keyed
+        pu : sameAt o image (some i) (up w i) ≡ true → u ≡ 0 → Keyed
         pu = like-lit i s E (up w i) (up-earlier w i (wide i fits))
 
         third : (a b c d : Bool) → a && b && c && d ≡ true → (c ≡ true) × (d ≡ true)
@@ -564,13 +564,13 @@ module _ {image : List ℕ} {size : ℕ} {Gone : ℕ → Type 0} {Keyed : Type 0
         third false b c d e = absurd (true≢false (sym e))
 
         differ : leftMeetsUp o w image i s ≡ true → l ≢ u
-        differ e x = true≢false (sym e ∙ ap (λ b. not b && isSame o image (left w i) (up w i) && isSame o image (some i) (left w i) && isSame o image (some i) (up w i)) (eqb-yes l u x))
+        differ e x = true≢false (sym e ∙ ap (λ b. not b && sameAt o image (left w i) (up w i) && sameAt o image (some i) (left w i) && sameAt o image (some i) (up w i)) (eqb-yes l u x))
 
         pick : (b : Bool) → leftMeetsUp o w image i s ≡ b → Early image size Gone Keyed (suc i) (if b then combineThenPlace o w image i l u s else place o w image i l u s)
         pick true e =
             combine-place i l u s E fits (differ e) (labelAt-next i s (left w i) E) (labelAt-next i s (up w i) E)
-            (pl (third (not (eqb l u)) (isSame o image (left w i) (up w i)) (isSame o image (some i) (left w i)) (isSame o image (some i) (up w i)) e .0))
-            (pu (third (not (eqb l u)) (isSame o image (left w i) (up w i)) (isSame o image (some i) (left w i)) (isSame o image (some i) (up w i)) e .1))
+            (pl (third (not (eqb l u)) (sameAt o image (left w i) (up w i)) (sameAt o image (some i) (left w i)) (sameAt o image (some i) (up w i)) e .0))
+            (pu (third (not (eqb l u)) (sameAt o image (left w i) (up w i)) (sameAt o image (some i) (left w i)) (sameAt o image (some i) (up w i)) e .1))
         pick false e = place-early i l u s E fits (labelAt-next i s (left w i) E) (labelAt-next i s (up w i) E) pl pu
 
     pub taken-early : Early image size Gone Keyed 0 (fresh size) → (n : ℕ) → n ≤ size → Early image size Gone Keyed n (taken o w image size n)

@@ -15,7 +15,7 @@ use Rattle.rules.specs.Base.{if_then_else_, times}
 use Rattle.rules.specs.Color.{Color, RunnerConfig, ColorSum, zeroSum, pixel, isDiscard}
 use Rattle.rules.specs.Grid.{up, left, upLeft}
 use Rattle.rules.specs.State.{State, Cluster, BoundingRect, emptyRect, isEmpty, mergeRect, newCluster, cluster, label, area, pixelRect, withPixel, fresh, add, beginCluster, combine, emptied, withCluster}
-use Rattle.rules.specs.Stage1.{isSame, labelAt, leftMeetsUp, lowerNext, isKey, place, takePixel, taken, combineThenPlace}
+use Rattle.rules.specs.Stage1.{sameAt, labelAt, leftMeetsUp, lowerNext, isKey, place, takePixel, taken, combineThenPlace}
 use Rattle.rules.specs.Run.{stage1}
 use Rattle.rules.specs.Ranges.{OnImage}
 use Rattle.rules.proofs.Early.{Early, Placed, placed, fresh-cluster}
@@ -83,7 +83,7 @@ module _ (o : RunnerConfig) (w h : ℕ) (image : List ℕ) (Q : Cluster → Type
     place-every : (l u : ℕ) (s : State) → s .next ≤ length (s .clusters) → Every (s .clusters) → Every (place o w image i l u s .clusters)
     unfolding place
     place-every l u s r f =
-        pick (isKey o image i) (isDiscard (o .keyingAction)) (isSame o image (some i) (up w i) && isSame o image (some i) (upLeft w i)) (isSame o image (some i) (left w i) && isSame o image (some i) (upLeft w i))
+        pick (isKey o image i) (isDiscard (o .keyingAction)) (sameAt o image (some i) (up w i) && sameAt o image (some i) (upLeft w i)) (sameAt o image (some i) (left w i) && sameAt o image (some i) (upLeft w i))
       where
         c : Color
         c = pixel image i

@@ -4,7 +4,7 @@ use mathlib.Core.List.{List, [], _∷_}
 use mathlib.Core.Option.{Option, none, some}
 use Prim.Native.Nat.{ℕ, zero, suc, _+_, _-_, _*_, _/_, _^_}
 use lib.Dec.{leb, ltb, eqb}
-use lib.ListN.{getD}
+use lib.ListN.{length, getD}
 use lib.IntN.{ℤ, pos, negsuc}
 use Rattle.rules.specs.Base.{if_then_else_, apart}
 
@@ -20,6 +20,11 @@ rgba r g b a = record { r = r; g = g; b = b; a = a }
 -- the image is its bytes, four for each pixel
 unfoldable pub pixel : List ℕ → ℕ → Color
 pixel image i = rgba (getD image (4 * i) 0) (getD image (4 * i + 1) 0) (getD image (4 * i + 2) 0) (getD image (4 * i + 3) 0)
+
+-- the pixel at column x, row y of w columns and h rows; off the image it is none
+unfoldable pub pixelAt : List ℕ → ℕ → ℕ → ℕ → ℕ → Option Color
+unfolding pixel
+pixelAt image w h x y = if ltb x w && ltb y h && leb (4 * (w * y + x) + 4) (length image) then some (pixel image (w * y + x)) else none
 
 pub record ColorSum : Type 0 where
   pub r : ℕ
@@ -96,17 +101,25 @@ unfoldable pub discards : RunnerConfig → Bool
 unfolding keyingOn
 discards o = keyingOn o && isDiscard (o .keyingAction)
 
--- the shift, `is_same_color_a`, of an accepted call is 0 to 7
+-- the shift; that of an accepted call is 0 to 7
 abbrev pub shiftOf : ℤ → ℕ
 shiftOf (pos n) = n
 shiftOf (negsuc n) = 0
 
--- Two colours are like (a term of document 01; `color_same`): r, g and b, shifted right, differ by at most `is_same_color_b`. Alpha does not count.
-unfoldable pub colorSame : RunnerConfig → Color → Color → Bool
-colorSame o x y = close (x .r) (y .r) && close (x .g) (y .g) && close (x .b) (y .b)
+-- Two colours are like (a term of document 01; `color_same`): r, g and b, shifted right, differ by at most the bound. Alpha does not count.
+unfoldable pub colorSame : ℤ → ℤ → Color → Color → Bool
+colorSame shift bound x y = close (x .r) (y .r) && close (x .g) (y .g) && close (x .b) (y .b)
   where
     close : ℕ → ℕ → Bool
-    close c d = atMost (apart (c / 2 ^ shiftOf (o .isSameColorA)) (d / 2 ^ shiftOf (o .isSameColorA))) (o .isSameColorB)
+    close c d = atMost (apart (c / 2 ^ shiftOf shift) (d / 2 ^ shiftOf shift)) bound
+
+-- none is like nothing
+unfoldable pub isSame : ℤ → ℤ → Option Color → Option Color → Bool
+unfolding colorSame
+isSame shift bound (some x) (some y) = colorSame shift bound x y
+isSame shift bound (some x) none = false
+isSame shift bound none (some y) = false
+isSame shift bound none none = false
 
 -- The difference of two colours (`color_diff`): the sum of the absolute r, g and b differences.
 unfoldable pub colorDiff : Color → Color → ℕ

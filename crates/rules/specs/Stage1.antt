@@ -7,17 +7,20 @@ use Prim.Native.Nat.{ℕ, zero, suc, _+_, _-_, _*_, _/_, _%_}
 use lib.Dec.{leb, ltb, eqb}
 use lib.ListN.{length, getD, set}
 use Rattle.rules.specs.Base.{if_then_else_, times}
-use Rattle.rules.specs.Color.{Color, RunnerConfig, equalColor, keyingOn, isDiscard, colorSame, pixel}
+use Rattle.rules.specs.Color.{Color, RunnerConfig, equalColor, keyingOn, isDiscard, isSame, pixel}
 use Rattle.rules.specs.Grid.{up, left, upLeft}
 use Rattle.rules.specs.State.{State, Cluster, fresh, cluster, label, area, pixelRect, add, beginCluster, combine}
 
--- whether the pixels at two places are like; none is like nothing
-unfoldable pub isSame : RunnerConfig → List ℕ → Option ℕ → Option ℕ → Bool
-unfolding colorSame pixel
-isSame o image (some i) (some j) = colorSame o (pixel image i) (pixel image j)
-isSame o image (some i) off = false
-isSame o image off (some j) = false
-isSame o image off off = false
+-- the pixel at a place; off the image it is none
+unfoldable pub colorAt : List ℕ → Option ℕ → Option Color
+unfolding pixel
+colorAt image (some i) = some (pixel image i)
+colorAt image off = off
+
+-- whether the pixels at two places are like
+unfoldable pub sameAt : RunnerConfig → List ℕ → Option ℕ → Option ℕ → Bool
+unfolding colorAt isSame
+sameAt o image p q = isSame (o .isSameColorA) (o .isSameColorB) (colorAt image p) (colorAt image q)
 
 -- off the image the label is 0
 unfoldable pub labelAt : State → Option ℕ → ℕ
@@ -43,20 +46,20 @@ lowerNext l s = record {
 module _ (o : RunnerConfig) (w : ℕ) (image : List ℕ) where
   -- step 1, the condition: the labels of left and up differ, left is like up, and the pixel is like both
   unfoldable pub leftMeetsUp : ℕ → State → Bool
-  unfolding isSame labelAt up left
+  unfolding sameAt labelAt up left
   leftMeetsUp i s =
       not (eqb (labelAt s (left w i)) (labelAt s (up w i)))
-      && isSame o image (left w i) (up w i) && isSame o image (some i) (left w i) && isSame o image (some i) (up w i)
+      && sameAt o image (left w i) (up w i) && sameAt o image (some i) (left w i) && sameAt o image (some i) (up w i)
 
   -- steps 2 to 5, with l and u for the labels of left and up
   unfoldable pub place : ℕ → ℕ → ℕ → State → State
-  unfolding isKey isSame up left upLeft pixel pixelRect add beginCluster
+  unfolding isKey sameAt up left upLeft pixel pixelRect add beginCluster
   place i l u s =
       let c = pixel image i in
       let at = pixelRect (i % w) (i / w) in
       if isKey o image i then (if isDiscard (o .keyingAction) then s else add i c at 0 s)
-      else (if isSame o image (some i) (up w i) && isSame o image (some i) (upLeft w i) then add i c at u s
-      else (if isSame o image (some i) (left w i) && isSame o image (some i) (upLeft w i) then add i c at l s
+      else (if sameAt o image (some i) (up w i) && sameAt o image (some i) (upLeft w i) then add i c at u s
+      else (if sameAt o image (some i) (left w i) && sameAt o image (some i) (upLeft w i) then add i c at l s
       else beginCluster i c at s))
 
   -- step 1, the merge: the smaller cluster goes into the larger, left into up on equal counts; the other steps read both labels as the survivor's
