@@ -1,0 +1,201 @@
+//! The seeded generator of cases. Each case depends on kind, seed and index alone, so that any
+//! stretch of any kind can be made again.
+
+mod images;
+mod settings;
+mod tiny;
+pub mod worked;
+
+pub use tiny::TINY_CASES;
+
+use crate::case::{Case, KeyingAction, Settings};
+use crate::model::{self, Reading};
+use crate::rng::Rng;
+use images::{Palette, Texture};
+
+/// What a case is made to show.
+#[derive(Clone, Copy, Debug, PartialEq, Eq)]
+pub enum Kind {
+    Worked,
+    Tiny,
+    Random,
+    Strip,
+    Extreme,
+    Nested,
+    Isolated,
+    Crowded,
+    Large,
+}
+
+impl Kind {
+    /// All kinds.
+    pub const ALL: [Kind; 9] = [
+        Kind::Worked,
+        Kind::Tiny,
+        Kind::Random,
+        Kind::Strip,
+        Kind::Extreme,
+        Kind::Nested,
+        Kind::Isolated,
+        Kind::Crowded,
+        Kind::Large,
+    ];
+
+    /// The name on the command line.
+    pub fn name(self) -> &'static str {
+        match self {
+            Kind::Worked => "worked",
+            Kind::Tiny => "tiny",
+            Kind::Random => "random",
+            Kind::Strip => "strip",
+            Kind::Extreme => "extreme",
+            Kind::Nested => "nested",
+            Kind::Isolated => "isolated",
+            Kind::Crowded => "crowded",
+            Kind::Large => "large",
+        }
+    }
+
+    /// What the kind holds, for the help.
+    pub fn describe(self) -> &'static str {
+        match self {
+            Kind::Worked => "the worked images H1 to H10, by index",
+            Kind::Tiny => "all images up to 3×3 over small alphabets, by index",
+            Kind::Random => "images up to 8×8 of every texture, common settings",
+            Kind::Strip => "images of one row or one column",
+            Kind::Extreme => "small images under settings at the ends of their ranges",
+            Kind::Nested => "shapes inside shapes, which deepen and have holes",
+            Kind::Isolated => "clusters between discarded pixels",
+            Kind::Crowded => "more output entries than pixels",
+            Kind::Large => "images of 10×10 to 30×30",
+        }
+    }
+
+    /// The kind of that name.
+    pub fn named(name: &str) -> Option<Kind> {
+        Kind::ALL.into_iter().find(|kind| kind.name() == name)
+    }
+}
+
+/// The kinds of `mixed`, each as often as it stands here.
+const MIX: [Kind; 12] = [
+    Kind::Random,
+    Kind::Nested,
+    Kind::Isolated,
+    Kind::Tiny,
+    Kind::Random,
+    Kind::Strip,
+    Kind::Extreme,
+    Kind::Nested,
+    Kind::Isolated,
+    Kind::Tiny,
+    Kind::Random,
+    Kind::Extreme,
+];
+
+/// The `index`-th case of a mix of the small random kinds.
+pub fn mixed(seed: u64, index: u64) -> Case {
+    let mut rng = Rng::for_case(seed, index);
+    match rng.pick(&MIX) {
+        Kind::Tiny => tiny::case(rng.next()),
+        kind => make(kind, &mut rng),
+    }
+}
+
+/// The `index`-th case of a kind. The two enumerated kinds go by the index alone, and begin again
+/// at their end.
+pub fn case(kind: Kind, seed: u64, index: u64) -> Case {
+    match kind {
+        Kind::Worked => worked::case(index),
+        Kind::Tiny => tiny::case(index),
+        _ => make(kind, &mut Rng::for_case(seed, index)),
+    }
+}
+
+/// An image of one size with one texture under given settings.
+pub fn large(seed: u64, index: u64, width: u32, height: u32) -> Case {
+    large_of(&mut Rng::for_case(seed, index), width, height)
+}
+
+fn make(kind: Kind, rng: &mut Rng) -> Case {
+    match kind {
+        Kind::Worked => worked::case(rng.next()),
+        Kind::Tiny => tiny::case(rng.next()),
+        Kind::Random => random(rng),
+        Kind::Strip => strip(rng),
+        Kind::Extreme => extreme(rng),
+        Kind::Nested => nested(rng),
+        Kind::Isolated => isolated(rng),
+        Kind::Crowded => crowded(rng),
+        Kind::Large => {
+            let (width, height) = (rng.range(10, 30), rng.range(10, 30));
+            large_of(rng, width, height)
+        }
+    }
+}
+
+fn random(rng: &mut Rng) -> Case {
+    let (width, height) = (rng.range(1, 8), rng.range(1, 8));
+    let palette = Palette::random(rng);
+    let texture = Texture::random(rng);
+    let settings = settings::common(rng, &palette);
+    images::draw(rng, settings, width, height, &palette, texture)
+}
+
+fn strip(rng: &mut Rng) -> Case {
+    let length = rng.range(1, 24);
+    let (width, height) = rng.pick(&[(1, length), (length, 1)]);
+    let palette = Palette::random(rng);
+    let texture = rng.pick(&[Texture::Noise, Texture::Smear, Texture::Gradient]);
+    let settings = settings::common(rng, &palette);
+    images::draw(rng, settings, width, height, &palette, texture)
+}
+
+fn extreme(rng: &mut Rng) -> Case {
+    let (width, height) = (rng.range(1, 6), rng.range(1, 6));
+    let palette = Palette::random(rng);
+    let texture = Texture::random(rng);
+    let settings = settings::extreme(rng, &palette);
+    images::draw(rng, settings, width, height, &palette, texture)
+}
+
+fn nested(rng: &mut Rng) -> Case {
+    let (width, height) = (rng.range(3, 12), rng.range(3, 12));
+    let palette = Palette::random(rng);
+    let texture = rng.pick(&[Texture::Rings, Texture::Rectangles]);
+    let settings = settings::deepening(rng, &palette);
+    images::draw(rng, settings, width, height, &palette, texture)
+}
+
+fn isolated(rng: &mut Rng) -> Case {
+    let (width, height) = (rng.range(2, 9), rng.range(2, 9));
+    isolated_of(rng, width, height)
+}
+
+fn isolated_of(rng: &mut Rng, width: u32, height: u32) -> Case {
+    let palette = Palette::keyed(rng);
+    let settings = Settings {
+        keying_action: KeyingAction::Discard,
+        key: palette.key(),
+        ..settings::deepening(rng, &palette)
+    };
+    images::draw(rng, settings, width, height, &palette, Texture::Islands)
+}
+
+/// Draws until the rules put out more entries than there are pixels.
+fn crowded(rng: &mut Rng) -> Case {
+    loop {
+        let (width, height) = (rng.range(3, 5), rng.range(3, 5));
+        let case = isolated_of(rng, width, height);
+        if model::answer(&case, Reading::Right).m() > case.area() {
+            return case;
+        }
+    }
+}
+
+fn large_of(rng: &mut Rng, width: u32, height: u32) -> Case {
+    let palette = Palette::random(rng);
+    let texture = Texture::random(rng);
+    let settings = settings::common(rng, &palette);
+    images::draw(rng, settings, width, height, &palette, texture)
+}
