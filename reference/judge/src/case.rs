@@ -113,4 +113,10 @@ impl Case {
             .try_into()
             .expect("four bytes")
     }
+
+    /// Gives pixel `p` another colour.
+    pub fn set_pixel(&mut self, p: u32, color: Rgba) {
+        let start = CHANNELS * p as usize;
+        self.image[start..start + CHANNELS].copy_from_slice(&color);
+    }
 }

@@ -1,6 +1,8 @@
 //! The seeded generator of cases. Each case depends on kind, seed and index alone, so that any
 //! stretch of any kind can be made again.
 
+mod crowded;
+mod edge;
 mod images;
 mod settings;
 mod tiny;
@@ -9,7 +11,6 @@ pub mod worked;
 pub use tiny::TINY_CASES;
 
 use crate::case::{Case, KeyingAction, Settings};
-use crate::model::{self, Reading};
 use crate::rng::Rng;
 use images::{Palette, Texture};
 
@@ -22,6 +23,7 @@ pub enum Kind {
     Strip,
     Extreme,
     Nested,
+    Edge,
     Isolated,
     Crowded,
     Large,
@@ -29,13 +31,14 @@ pub enum Kind {
 
 impl Kind {
     /// All kinds.
-    pub const ALL: [Kind; 9] = [
+    pub const ALL: [Kind; 10] = [
         Kind::Worked,
         Kind::Tiny,
         Kind::Random,
         Kind::Strip,
         Kind::Extreme,
         Kind::Nested,
+        Kind::Edge,
         Kind::Isolated,
         Kind::Crowded,
         Kind::Large,
@@ -50,6 +53,7 @@ impl Kind {
             Kind::Strip => "strip",
             Kind::Extreme => "extreme",
             Kind::Nested => "nested",
+            Kind::Edge => "edge",
             Kind::Isolated => "isolated",
             Kind::Crowded => "crowded",
             Kind::Large => "large",
@@ -65,9 +69,19 @@ impl Kind {
             Kind::Strip => "images of one row or one column",
             Kind::Extreme => "small images under settings at the ends of their ranges",
             Kind::Nested => "shapes inside shapes, which deepen and have holes",
+            Kind::Edge => "a limit exactly where a cluster of the image meets it, or one beside",
             Kind::Isolated => "clusters between discarded pixels",
             Kind::Crowded => "more output entries than pixels",
             Kind::Large => "images of 10×10 to 30×30",
+        }
+    }
+
+    /// How many cases the kind has, where it is an enumeration.
+    pub fn total(self) -> Option<u64> {
+        match self {
+            Kind::Worked => Some(worked::all().len() as u64),
+            Kind::Tiny => Some(TINY_CASES),
+            _ => None,
         }
     }
 
@@ -78,19 +92,16 @@ impl Kind {
 }
 
 /// The kinds of `mixed`, each as often as it stands here.
-const MIX: [Kind; 12] = [
-    Kind::Random,
-    Kind::Nested,
-    Kind::Isolated,
+const MIX: [Kind; 9] = [
     Kind::Tiny,
+    Kind::Random,
     Kind::Random,
     Kind::Strip,
     Kind::Extreme,
     Kind::Nested,
+    Kind::Edge,
     Kind::Isolated,
-    Kind::Tiny,
-    Kind::Random,
-    Kind::Extreme,
+    Kind::Isolated,
 ];
 
 /// The `index`-th case of a mix of the small random kinds.
@@ -125,8 +136,16 @@ fn make(kind: Kind, rng: &mut Rng) -> Case {
         Kind::Strip => strip(rng),
         Kind::Extreme => extreme(rng),
         Kind::Nested => nested(rng),
+        Kind::Edge => {
+            let base = if rng.percent(70) {
+                nested(rng)
+            } else {
+                random(rng)
+            };
+            edge::case(rng, base)
+        }
         Kind::Isolated => isolated(rng),
-        Kind::Crowded => crowded(rng),
+        Kind::Crowded => crowded::case(rng),
         Kind::Large => {
             let (width, height) = (rng.range(10, 30), rng.range(10, 30));
             large_of(rng, width, height)
@@ -169,10 +188,6 @@ fn nested(rng: &mut Rng) -> Case {
 
 fn isolated(rng: &mut Rng) -> Case {
     let (width, height) = (rng.range(2, 9), rng.range(2, 9));
-    isolated_of(rng, width, height)
-}
-
-fn isolated_of(rng: &mut Rng, width: u32, height: u32) -> Case {
     let palette = Palette::keyed(rng);
     let settings = Settings {
         keying_action: KeyingAction::Discard,
@@ -180,17 +195,6 @@ fn isolated_of(rng: &mut Rng, width: u32, height: u32) -> Case {
         ..settings::deepening(rng, &palette)
     };
     images::draw(rng, settings, width, height, &palette, Texture::Islands)
-}
-
-/// Draws until the rules put out more entries than there are pixels.
-fn crowded(rng: &mut Rng) -> Case {
-    loop {
-        let (width, height) = (rng.range(3, 5), rng.range(3, 5));
-        let case = isolated_of(rng, width, height);
-        if model::answer(&case, Reading::Right).m() > case.area() {
-            return case;
-        }
-    }
 }
 
 fn large_of(rng: &mut Rng, width: u32, height: u32) -> Case {

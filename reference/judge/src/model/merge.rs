@@ -9,10 +9,14 @@ impl Model<'_> {
         let (x, y) = self.place(p);
         let color = self.case.pixel(p);
         let collects = self.reads(Reading::ResidueCollectsInStageOne);
+        let pixel_rect = match self.reading {
+            Reading::RectFromOrigin => [0, 0, x + 1, y + 1],
+            _ => [x, y, x + 1, y + 1],
+        };
         let cluster = self.cluster_mut(k);
         cluster.list.push(p);
         merge_sums(&mut cluster.sum, sum_of(color));
-        merge_rects(&mut cluster.rect, [x, y, x + 1, y + 1]);
+        merge_rects(&mut cluster.rect, pixel_rect);
         if collects {
             merge_sums(&mut cluster.residue, sum_of(color));
         }
@@ -91,6 +95,9 @@ impl Model<'_> {
         }
         merge_sums(&mut target.sum, source.sum);
         merge_rects(&mut target.rect, source.rect);
+        if reading == Reading::EmptyRectMerged && source.rect == [0; 4] {
+            target.rect[..2].fill(0);
+        }
     }
 
     fn hand_on_residue(&mut self, from: u32, to: u32) {
@@ -115,12 +122,14 @@ impl Model<'_> {
                 let children = std::mem::take(&mut self.cluster_mut(from).hole_children);
                 self.cluster_mut(to).hole_children.extend(children);
             }
+            Reading::PlainDropsHoles => self.cluster_mut(from).hole_children.clear(),
             Reading::PlainAppendsHole if hollow => self.append_hole(from, to),
             Reading::PlainAddsDepth => {
                 let depth = self.cluster(from).depth;
                 self.cluster_mut(to).depth += depth;
             }
             Reading::PlainRaisesDepth => self.cluster_mut(to).depth += 1,
+            Reading::PlainClearsDepth => self.cluster_mut(from).depth = 0,
             Reading::PlainSetsMergedInto => self.cluster_mut(from).merged_into = to,
             Reading::MergedIntoFollows => {
                 for cluster in &mut self.clusters {

@@ -31,6 +31,7 @@ readings! {
     AlphaInLikeness: "alpha counts in likeness",
     LikenessStrict: "like means a difference below `_b`",
     LikenessUnsigned: "a negative `_b` is read as a large number",
+    LeftWrapsAround: "left of a row's first pixel is the last pixel of the row above",
 
     // Stage 1, step 1
     StepOneForgetsLeftLikeUp: "step 1 does not ask whether left is like up",
@@ -41,11 +42,12 @@ readings! {
     UpAlwaysIntoLeft: "up always goes into left",
     LargerIntoSmaller: "the larger cluster goes into the smaller",
     EqualUpIntoLeft: "on equal counts up goes into left",
+    DiscardedCounted: "discarded pixels count for cluster 0 in step 1",
     NextNeverFalls: "next never falls",
     NextFallsWhenUpWent: "next falls also when up went",
     NextFallsBelowSlotCount: "next falls also where it is not the slot count",
     OldLabels: "steps 3 and 4 read the old labels",
-    LabelsReadAgain: "steps 3 and 4 look the labels of left and up up again",
+    LabelsReadAgain: "steps 3 and 4 read the labels of left and up anew",
 
     // Stage 1, steps 2 to 5
     KeyIgnoresAlpha: "the key test ignores alpha",
@@ -65,11 +67,15 @@ readings! {
     ResidueOnlyItsOwn: "a residue is only the pixels that the cluster began with",
     PlainClearsResidue: "a plain merge clears from's residue",
     PlainMovesHoles: "a plain merge moves the hole children",
+    PlainDropsHoles: "a plain merge clears from's hole children",
     PlainAppendsHole: "a hollow plain merge appends a hole child",
     PlainAddsDepth: "a plain merge adds from's depth",
     PlainRaisesDepth: "a plain merge raises the depth by one",
+    PlainClearsDepth: "a plain merge clears from's depth",
     PlainSetsMergedInto: "a plain merge sets `merged_into`",
     PlainKeepsRect: "a plain merge leaves from's rectangle",
+    EmptyRectMerged: "the rectangle of an empty from is merged as one at the origin",
+    RectFromOrigin: "rectangles grow from the origin",
     MergedIntoFollows: "`merged_into` follows when its target is merged on",
     DeepeningAddsResidue: "a deepening merge adds from's residue",
     DeepeningClearsFrom: "a deepening merge empties from",
@@ -78,6 +84,7 @@ readings! {
     HolesPrepended: "hole children are prepended",
     HollowAlways: "every deepening merge appends a hole child",
     HollowStrict: "hollow means fewer than `hollow_neighbours` neighbours",
+    HollowSigned: "`hollow_neighbours` is read as a signed number",
     HollowOffTheBorder: "a cluster at the border of the image is not hollow",
 
     // Stage 2
@@ -87,6 +94,7 @@ readings! {
     HierarchicalInclusive: "an area equal to `hierarchical` is put out",
     ZeroIsNeighbour: "cluster 0 counts as a neighbour",
     DiagonalNeighbours: "neighbours are found at the corners too",
+    NeighboursWrapAround: "neighbours are found across the ends of rows",
     IsolatedWaitsUnderDiscard: "an isolated cluster under Discard waits as under Keep",
     IsolatedPutOutUnderKeep: "an isolated cluster under Keep is put out at once",
     PassedOverAgain: "a passed-over cluster is visited again before it grows",
@@ -99,6 +107,7 @@ readings! {
     DeepensBelowTop: "clusters deepen under any `hierarchical`",
     MinInclusive: "min ≤ area deepens",
     MaxInclusive: "area ≤ max deepens",
+    AreasSigned: "min and max are read as signed numbers",
     DiffInclusive: "a difference equal to `deepen_diff` deepens",
     DiffUnsigned: "a negative `deepen_diff` is read as a large number",
     BoundaryInclusive: "boundary ≤ area deepens",

@@ -16,17 +16,23 @@ impl Model<'_> {
     /// Takes all pixels, row by row; then each residue is set to its sum.
     pub(super) fn stage_1(&mut self) {
         for pixel in 0..self.case.area() {
-            self.take(Corner {
-                pixel,
-                left: self.beside(pixel, -1, 0),
-                up: self.beside(pixel, 0, -1),
-                up_left: self.beside(pixel, -1, -1),
-            });
+            self.take(self.corner(pixel));
         }
         if !self.reads(Reading::ResidueCollectsInStageOne) {
             for cluster in &mut self.clusters {
                 cluster.residue = cluster.sum;
             }
+        }
+    }
+
+    fn corner(&self, pixel: u32) -> Corner {
+        let wraps = self.reads(Reading::LeftWrapsAround);
+        let back = |steps: u32| pixel.checked_sub(steps).filter(|_| wraps);
+        Corner {
+            pixel,
+            left: self.beside(pixel, -1, 0).or(back(1)),
+            up: self.beside(pixel, 0, -1),
+            up_left: self.beside(pixel, -1, -1).or(back(self.case.width + 1)),
         }
     }
 
@@ -54,7 +60,7 @@ impl Model<'_> {
         if left == up || !self.corner_is_one(corner) || self.step_1_spares(corner, left, up) {
             return (left, up);
         }
-        let left_goes = self.left_goes(left, up);
+        let left_goes = self.left_goes(corner.pixel, left, up);
         let (from, to) = if left_goes { (left, up) } else { (up, left) };
         self.combine(from, to);
         if self.next_falls(left_goes, from) {
@@ -88,8 +94,16 @@ impl Model<'_> {
     }
 
     /// The smaller cluster goes, left on equal counts.
-    fn left_goes(&self, left: u32, up: u32) -> bool {
-        let (left, up) = (self.count(left), self.count(up));
+    fn left_goes(&self, pixel: u32, left: u32, up: u32) -> bool {
+        let count = |k: u32| {
+            let discarded = if k == 0 && self.reads(Reading::DiscardedCounted) {
+                self.discarded_before(pixel)
+            } else {
+                0
+            };
+            self.count(k) + discarded
+        };
+        let (left, up) = (count(left), count(up));
         match self.reading {
             Reading::LeftAlwaysIntoUp => true,
             Reading::UpAlwaysIntoLeft => false,
@@ -97,6 +111,11 @@ impl Model<'_> {
             Reading::EqualUpIntoLeft => left < up,
             _ => left <= up,
         }
+    }
+
+    fn discarded_before(&self, pixel: u32) -> u32 {
+        let is_discarded = |&p: &u32| self.is_key(p) && !self.keeps_key_pixels();
+        (0..pixel).filter(is_discarded).count() as u32
     }
 
     fn next_falls(&self, left_went: bool, from: u32) -> bool {

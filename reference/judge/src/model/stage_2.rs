@@ -126,11 +126,22 @@ impl Model<'_> {
         let mut seen = HashSet::new();
         list.iter()
             .flat_map(|&p| sides.iter().map(move |&(dx, dy)| (p, dx, dy)))
-            .filter_map(|(p, dx, dy)| self.beside(p, dx, dy))
+            .filter_map(|(p, dx, dy)| self.neighbour_at(p, dx, dy))
             .map(|q| self.label(q))
             .filter(|&label| label != own && self.counts_as_neighbour(label))
             .filter(|&label| seen.insert(label))
             .collect()
+    }
+
+    fn neighbour_at(&self, p: u32, dx: i32, dy: i32) -> Option<u32> {
+        let across = || {
+            let q = p.checked_add_signed(dx + dy * self.case.width as i32)?;
+            (q < self.case.area()).then_some(q)
+        };
+        match self.reading {
+            Reading::NeighboursWrapAround => across(),
+            _ => self.beside(p, dx, dy),
+        }
     }
 
     fn counts_as_neighbour(&self, label: u32) -> bool {
@@ -176,6 +187,7 @@ impl Model<'_> {
         let limit = self.case.settings.hollow_neighbours as usize;
         match self.reading {
             Reading::HollowStrict => neighbours < limit,
+            Reading::HollowSigned => neighbours <= limit && limit < 1 << 31,
             Reading::HollowOffTheBorder => neighbours <= limit && !self.touches_border(k),
             _ => neighbours <= limit,
         }
@@ -207,6 +219,7 @@ impl Model<'_> {
         match self.reading {
             Reading::MinInclusive => min <= area && area < max,
             Reading::MaxInclusive => min < area && area <= max,
+            Reading::AreasSigned => (min as i32) < area as i32 && (area as i32) < max as i32,
             _ => min < area && area < max,
         }
     }
