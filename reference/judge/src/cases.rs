@@ -104,17 +104,14 @@ const MIX: [Kind; 9] = [
     Kind::Isolated,
 ];
 
-/// The `index`-th case of a mix of the small random kinds.
+/// The `index`-th case of a mix of the small kinds.
 pub fn mixed(seed: u64, index: u64) -> Case {
     let mut rng = Rng::for_case(seed, index);
-    match rng.pick(&MIX) {
-        Kind::Tiny => tiny::case(rng.next()),
-        kind => make(kind, &mut rng),
-    }
+    let kind = rng.pick(&MIX);
+    make(kind, &mut rng)
 }
 
-/// The `index`-th case of a kind. The two enumerated kinds go by the index alone, and begin again
-/// at their end.
+/// The `index`-th case of a kind. The enumerations go by the index alone.
 pub fn case(kind: Kind, seed: u64, index: u64) -> Case {
     match kind {
         Kind::Worked => worked::case(index),
@@ -123,38 +120,37 @@ pub fn case(kind: Kind, seed: u64, index: u64) -> Case {
     }
 }
 
-/// An image of one size with one texture under given settings.
-pub fn large(seed: u64, index: u64, width: u32, height: u32) -> Case {
-    large_of(&mut Rng::for_case(seed, index), width, height)
+/// A random case of a given size.
+pub fn sized(seed: u64, index: u64, width: u32, height: u32) -> Case {
+    any_texture(&mut Rng::for_case(seed, index), width, height)
 }
 
 fn make(kind: Kind, rng: &mut Rng) -> Case {
     match kind {
-        Kind::Worked => worked::case(rng.next()),
-        Kind::Tiny => tiny::case(rng.next()),
+        Kind::Worked => worked::case(rng.bits()),
+        Kind::Tiny => tiny::case(rng.bits()),
         Kind::Random => random(rng),
         Kind::Strip => strip(rng),
         Kind::Extreme => extreme(rng),
         Kind::Nested => nested(rng),
-        Kind::Edge => {
-            let base = if rng.percent(70) {
-                nested(rng)
-            } else {
-                random(rng)
-            };
-            edge::case(rng, base)
-        }
+        Kind::Edge => edge(rng),
         Kind::Isolated => isolated(rng),
         Kind::Crowded => crowded::case(rng),
-        Kind::Large => {
-            let (width, height) = (rng.range(10, 30), rng.range(10, 30));
-            large_of(rng, width, height)
-        }
+        Kind::Large => large(rng),
     }
 }
 
 fn random(rng: &mut Rng) -> Case {
     let (width, height) = (rng.range(1, 8), rng.range(1, 8));
+    any_texture(rng, width, height)
+}
+
+fn large(rng: &mut Rng) -> Case {
+    let (width, height) = (rng.range(10, 30), rng.range(10, 30));
+    any_texture(rng, width, height)
+}
+
+fn any_texture(rng: &mut Rng, width: u32, height: u32) -> Case {
     let palette = Palette::random(rng);
     let texture = Texture::random(rng);
     let settings = settings::common(rng, &palette);
@@ -186,6 +182,15 @@ fn nested(rng: &mut Rng) -> Case {
     images::draw(rng, settings, width, height, &palette, texture)
 }
 
+fn edge(rng: &mut Rng) -> Case {
+    let base = if rng.percent(70) {
+        nested(rng)
+    } else {
+        random(rng)
+    };
+    edge::case(rng, base)
+}
+
 fn isolated(rng: &mut Rng) -> Case {
     let (width, height) = (rng.range(2, 9), rng.range(2, 9));
     let palette = Palette::keyed(rng);
@@ -195,11 +200,4 @@ fn isolated(rng: &mut Rng) -> Case {
         ..settings::deepening(rng, &palette)
     };
     images::draw(rng, settings, width, height, &palette, Texture::Islands)
-}
-
-fn large_of(rng: &mut Rng, width: u32, height: u32) -> Case {
-    let palette = Palette::random(rng);
-    let texture = Texture::random(rng);
-    let settings = settings::common(rng, &palette);
-    images::draw(rng, settings, width, height, &palette, texture)
 }

@@ -1,5 +1,7 @@
 //! The comparison of the model with the original.
 
+use std::ops::Range;
+
 use crate::case::Case;
 use crate::model::{self, Reading};
 use crate::{original, parallel};
@@ -12,16 +14,17 @@ pub struct Comparison {
     pub first: Option<Case>,
 }
 
-/// Compares the model with the original on `count` cases, in the whole answer and in the labels
-/// with which stage 1 ends.
-pub fn compare(count: u64, case: impl Fn(u64) -> Case + Sync) -> Comparison {
-    let parts = parallel::over(0..count, |part| {
+/// Compares the model with the original on the cases at `indices`, in the whole answer and in the
+/// labels with which stage 1 ends.
+pub fn compare(indices: Range<u64>, case: impl Fn(u64) -> Case + Sync) -> Comparison {
+    let compared = indices.end - indices.start;
+    let parts = parallel::over(indices, |part| {
         let mut different = part.map(&case).filter(|case| !agrees(case)).peekable();
         let first = different.peek().cloned();
         (first, different.count() as u64)
     });
     Comparison {
-        compared: count,
+        compared,
         differ: parts.iter().map(|(_, differ)| differ).sum(),
         first: parts.into_iter().find_map(|(first, _)| first),
     }

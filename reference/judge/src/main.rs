@@ -2,6 +2,7 @@
 
 mod commands;
 mod options;
+mod selection;
 
 use std::io::{self, BufWriter, Write};
 use std::process::ExitCode;
@@ -27,6 +28,12 @@ impl From<io::Error> for Failure {
 impl From<String> for Failure {
     fn from(message: String) -> Self {
         Failure::Refused(message)
+    }
+}
+
+impl From<&str> for Failure {
+    fn from(message: &str) -> Self {
+        Failure::Refused(message.to_string())
     }
 }
 

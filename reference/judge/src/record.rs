@@ -62,7 +62,7 @@ fn chosen() -> impl Iterator<Item = Case> {
         .flat_map(|(kind, count)| (0..count).map(move |i| cases::case(kind, SEED, i)));
     let largest = (0..)
         .zip(LARGEST)
-        .map(|(i, (width, height))| cases::large(SEED, i, width, height));
+        .map(|(i, (width, height))| cases::sized(SEED, i, width, height));
     worked.chain(tiny).chain(seeded).chain(largest)
 }
 

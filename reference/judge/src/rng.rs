@@ -10,15 +10,14 @@ impl Rng {
     /// can be made without the ones before it.
     pub fn for_case(seed: u64, index: u64) -> Self {
         let mut seeded = Self { state: seed };
-        let start = seeded.next();
+        let start = seeded.bits();
         Self {
             state: start.wrapping_add(index.wrapping_mul(0xd134_2543_de82_ef95)),
         }
     }
 
     /// The next 64 bits.
-    #[allow(clippy::should_implement_trait)]
-    pub fn next(&mut self) -> u64 {
+    pub fn bits(&mut self) -> u64 {
         self.state = self.state.wrapping_add(0x9e37_79b9_7f4a_7c15);
         let mut z = self.state;
         z = (z ^ (z >> 30)).wrapping_mul(0xbf58_476d_1ce4_e5b9);
@@ -28,7 +27,7 @@ impl Rng {
 
     /// A number below `bound`, which is not 0.
     pub fn below(&mut self, bound: u32) -> u32 {
-        (self.next() % u64::from(bound)) as u32
+        (self.bits() % u64::from(bound)) as u32
     }
 
     /// A number from `low` to `high`, both included.

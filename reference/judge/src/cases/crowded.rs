@@ -59,7 +59,7 @@ fn is_crowded(case: &Case) -> bool {
 }
 
 fn change_pixel(rng: &mut Rng, case: &Case) -> Case {
-    let [r, g, b, ..] = rng.next().to_le_bytes();
+    let [r, g, b, ..] = rng.bits().to_le_bytes();
     let color = rng.pick(&[K, N, B, W, NEAR, FURTHER, GREY, [r, g, b, 255]]);
     let mut changed = case.clone();
     changed.set_pixel(rng.below(case.area()), color);

@@ -52,7 +52,7 @@ impl Palette {
 }
 
 fn any_color(rng: &mut Rng) -> Rgba {
-    let [r, g, b, a, ..] = rng.next().to_le_bytes();
+    let [r, g, b, a, ..] = rng.bits().to_le_bytes();
     [r, g, b, if rng.percent(70) { 255 } else { a }]
 }
 
