@@ -194,10 +194,18 @@ fn edge(rng: &mut Rng) -> Case {
 fn isolated(rng: &mut Rng) -> Case {
     let (width, height) = (rng.range(2, 9), rng.range(2, 9));
     let palette = Palette::keyed(rng);
+    let base = if rng.percent(50) {
+        settings::common(rng, &palette)
+    } else {
+        settings::deepening(rng, &palette)
+    };
+    let (is_same_color_a, is_same_color_b) = rng.pick(&[(4, 1), (4, 1), (4, 2), (3, 2), (0, 20)]);
     let settings = Settings {
+        is_same_color_a,
+        is_same_color_b,
         keying_action: KeyingAction::Discard,
         key: palette.key(),
-        ..settings::deepening(rng, &palette)
+        ..base
     };
     images::draw(rng, settings, width, height, &palette, Texture::Islands)
 }

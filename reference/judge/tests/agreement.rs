@@ -14,6 +14,12 @@ fn the_model_agrees_with_the_original() {
 }
 
 #[test]
+fn they_agree_on_images_of_the_largest_size() {
+    let largest = compare(0..2, |i| cases::sized(21, i, 250, 260));
+    assert_eq!(largest.first, None);
+}
+
+#[test]
 fn a_case_depends_on_kind_seed_and_index_alone() {
     for kind in Kind::ALL {
         assert_eq!(cases::case(kind, 1, 3), cases::case(kind, 1, 3));

@@ -212,7 +212,7 @@ impl Canvas {
 
     fn islands(&mut self, rng: &mut Rng, palette: &Palette) {
         let key = palette.key();
-        let (even, odd) = (rng.range(0, 95), rng.range(0, 60));
+        let (even, odd) = (rng.range(30, 100), rng.range(0, 50));
         self.fill(|_, x, y| {
             let covered = if (x + y) % 2 == 0 { even } else { odd };
             if rng.percent(covered) {

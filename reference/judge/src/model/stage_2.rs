@@ -228,7 +228,6 @@ impl Model<'_> {
         let asked =
             self.case.settings.good_min_area != 0 || self.reads(Reading::BoundaryAskedAtMinZero);
         match self.reading {
-            Reading::BoundaryNotAsked => true,
             Reading::BoundaryInclusive => !asked || self.boundary(k) <= self.count(k),
             _ => !asked || self.boundary(k) < self.count(k),
         }
