@@ -89,7 +89,7 @@ module _ (o : RunnerConfig) (w h : ℕ) (s : State) (own : ℕ) where
   abbrev Own : ℕ → Type 0
   Own i = (label s i ≡ 0) ⊎ (label s i ≡ own)
 
-  labelsAt-none : (is : List (Option ℕ)) (found : List ℕ) → labelsAt s own is found ≡ [] → (found ≡ []) × AllSome Own is
+  labelsAt-none : (is : List (Option ℕ)) (found : List ℕ) → labelsAt (s .labels) own is found ≡ [] → (found ≡ []) × AllSome Own is
   unfolding labelsAt
   labelsAt-none [] found e = (e, tt)
   labelsAt-none (off ∷ is) found e = let r = labelsAt-none is found e in (r .0, (tt, r .1))
@@ -103,11 +103,11 @@ module _ (o : RunnerConfig) (w h : ℕ) (s : State) (own : ℕ) where
       pick false x true y z = (z, inr (eqb-is (label s i) own y))
       pick false x false y z = absurd (insert-some (label s i) found z)
 
-  around4-none : (ps found : List ℕ) → labelsAround w h s own ps found ≡ [] → (found ≡ []) × ((q : ℕ) → occurs q ps ≢ 0 → AllSome Own (sides w h q))
+  around4-none : (ps found : List ℕ) → labelsAround w h (s .labels) own ps found ≡ [] → (found ≡ []) × ((q : ℕ) → occurs q ps ≢ 0 → AllSome Own (sides w h q))
   unfolding labelsAround
   around4-none [] found e = (e, λ q n. absurd (n refl))
   around4-none (p ∷ ps) found e =
-      let r = around4-none ps (labelsAt s own (sides w h p) found) e in
+      let r = around4-none ps (labelsAt (s .labels) own (sides w h p) found) e in
       let t = labelsAt-none (sides w h p) found (r .0) in
       (t .0, λ q n. pick q n (r .1 q) (t .1) (ℕ-discrete q p))
     where

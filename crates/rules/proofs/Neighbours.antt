@@ -135,7 +135,7 @@ module _ (o : RunnerConfig) (w h : ℕ) (s : State) (own : ℕ) where
   abbrev Seen : List (Option ℕ) → ℕ → Type 0
   Seen is t = (t ≢ 0) × (t ≢ own) × ((q : ℕ) × InSides q is × (label s q ≡ t))
 
-  labelsAt-in : (is : List (Option ℕ)) (found : List ℕ) (t : ℕ) → In t (labelsAt s own is found) ↔ (In t found ⊎ Seen is t)
+  labelsAt-in : (is : List (Option ℕ)) (found : List ℕ) (t : ℕ) → In t (labelsAt (s .labels) own is found) ↔ (In t found ⊎ Seen is t)
   unfolding labelsAt
   labelsAt-in [] found t = (λ i. inl i, λ x. back x)
     where
@@ -180,7 +180,7 @@ module _ (o : RunnerConfig) (w h : ℕ) (s : State) (own : ℕ) where
           place (inl z) = inl (fresh (eqb (label s i) 0) refl (eqb (label s i) own) refl (x .0) (x .1) (ap (label s) (sym z) ∙ x .2 .2))
           place (inr z) = inr (x .0, x .1, (x .2 .0, z, x .2 .2))
 
-  labelsAt-rising : (is : List (Option ℕ)) (found : List ℕ) → Rising found → Rising (labelsAt s own is found)
+  labelsAt-rising : (is : List (Option ℕ)) (found : List ℕ) → Rising found → Rising (labelsAt (s .labels) own is found)
   unfolding labelsAt
   labelsAt-rising [] found r = r
   labelsAt-rising (off ∷ is) found r = labelsAt-rising is found r
@@ -194,7 +194,7 @@ module _ (o : RunnerConfig) (w h : ℕ) (s : State) (own : ℕ) where
   abbrev pub SeenFrom : List ℕ → ℕ → Type 0
   SeenFrom ps t = (t ≢ 0) × (t ≢ own) × ((p : ℕ) × In p ps × ((q : ℕ) × InSides q (sides w h p) × (label s q ≡ t)))
 
-  around4-in : (ps found : List ℕ) (t : ℕ) → In t (labelsAround w h s own ps found) ↔ (In t found ⊎ SeenFrom ps t)
+  around4-in : (ps found : List ℕ) (t : ℕ) → In t (labelsAround w h (s .labels) own ps found) ↔ (In t found ⊎ SeenFrom ps t)
   unfolding labelsAround
   around4-in [] found t = (λ i. inl i, λ x. back x)
     where
@@ -202,7 +202,7 @@ module _ (o : RunnerConfig) (w h : ℕ) (s : State) (own : ℕ) where
       back (inl i) = i
       back (inr x) = absurd (x .2 .1)
   around4-in (p ∷ ps) found t =
-      let r = around4-in ps (labelsAt s own (sides w h p) found) t in
+      let r = around4-in ps (labelsAt (s .labels) own (sides w h p) found) t in
       let u = labelsAt-in (sides w h p) found t in
       (λ x. to (u .0) (r .0 x), λ x. r .1 (from (u .1) x))
     where
@@ -210,22 +210,22 @@ module _ (o : RunnerConfig) (w h : ℕ) (s : State) (own : ℕ) where
       first (inl x) = inl x
       first (inr x) = inr (x .0, x .1, (p, inl refl, x .2))
 
-      to : (In t (labelsAt s own (sides w h p) found) → In t found ⊎ Seen (sides w h p) t) → In t (labelsAt s own (sides w h p) found) ⊎ SeenFrom ps t → In t found ⊎ SeenFrom (p ∷ ps) t
+      to : (In t (labelsAt (s .labels) own (sides w h p) found) → In t found ⊎ Seen (sides w h p) t) → In t (labelsAt (s .labels) own (sides w h p) found) ⊎ SeenFrom ps t → In t found ⊎ SeenFrom (p ∷ ps) t
       to f (inl x) = first (f x)
       to f (inr x) = inr (x .0, x .1, (x .2 .0, inr (x .2 .1), x .2 .2))
 
-      from : (In t found ⊎ Seen (sides w h p) t → In t (labelsAt s own (sides w h p) found)) → In t found ⊎ SeenFrom (p ∷ ps) t → In t (labelsAt s own (sides w h p) found) ⊎ SeenFrom ps t
+      from : (In t found ⊎ Seen (sides w h p) t → In t (labelsAt (s .labels) own (sides w h p) found)) → In t found ⊎ SeenFrom (p ∷ ps) t → In t (labelsAt (s .labels) own (sides w h p) found) ⊎ SeenFrom ps t
       from f (inl x) = inl (f (inl x))
       from f (inr x) = place (x .2 .1)
         where
-          place : (x .2 .0 ≡ p) ⊎ In (x .2 .0) ps → In t (labelsAt s own (sides w h p) found) ⊎ SeenFrom ps t
+          place : (x .2 .0 ≡ p) ⊎ In (x .2 .0) ps → In t (labelsAt (s .labels) own (sides w h p) found) ⊎ SeenFrom ps t
           place (inl z) = inl (f (inr (x .0, x .1, (x .2 .2 .0, subst (λ m. InSides (x .2 .2 .0) (sides w h m)) z (x .2 .2 .1), x .2 .2 .2))))
           place (inr z) = inr (x .0, x .1, (x .2 .0, z, x .2 .2))
 
-  around4-rising : (ps found : List ℕ) → Rising found → Rising (labelsAround w h s own ps found)
+  around4-rising : (ps found : List ℕ) → Rising found → Rising (labelsAround w h (s .labels) own ps found)
   unfolding labelsAround
   around4-rising [] found r = r
-  around4-rising (p ∷ ps) found r = around4-rising ps (labelsAt s own (sides w h p) found) (labelsAt-rising (sides w h p) found r)
+  around4-rising (p ∷ ps) found r = around4-rising ps (labelsAt (s .labels) own (sides w h p) found) (labelsAt-rising (sides w h p) found r)
 
 module _ (o : RunnerConfig) (w h : ℕ) (s : State) (k : ℕ) where
   -- t is a neighbour exactly when it is neither 0 nor the label of the first pixel, and the label of a side of a pixel of k

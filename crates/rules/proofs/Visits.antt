@@ -62,7 +62,7 @@ abbrev pub Near : State → ℕ → ℕ → Type 0
 Near s own t = (t ≢ 0) × (t ≢ own) × ((i : ℕ) × (label s i ≡ t))
 
 module _ (o : RunnerConfig) (w h : ℕ) where
-  labelsAt-near : (s : State) (own : ℕ) (is : List (Option ℕ)) (found : List ℕ) → All (Near s own) found → All (Near s own) (labelsAt s own is found)
+  labelsAt-near : (s : State) (own : ℕ) (is : List (Option ℕ)) (found : List ℕ) → All (Near s own) found → All (Near s own) (labelsAt (s .labels) own is found)
   unfolding labelsAt
   labelsAt-near s own [] found a = a
   labelsAt-near s own (off ∷ is) found a = labelsAt-near s own is found a
@@ -75,10 +75,10 @@ module _ (o : RunnerConfig) (w h : ℕ) where
       pick false e true d = a
       pick false e false d = insert-all (Near s own) (label s i) found (eqb-ne (label s i) 0 e, eqb-ne (label s i) own d, (i, refl)) a
 
-  around4-near : (s : State) (own : ℕ) (ps found : List ℕ) → All (Near s own) found → All (Near s own) (labelsAround w h s own ps found)
+  around4-near : (s : State) (own : ℕ) (ps found : List ℕ) → All (Near s own) found → All (Near s own) (labelsAround w h (s .labels) own ps found)
   unfolding labelsAround
   around4-near s own [] found a = a
-  around4-near s own (p ∷ ps) found a = around4-near s own ps (labelsAt s own (sides w h p) found) (labelsAt-near s own (sides w h p) found a)
+  around4-near s own (p ∷ ps) found a = around4-near s own ps (labelsAt (s .labels) own (sides w h p) found) (labelsAt-near s own (sides w h p) found a)
 
   pub neighbours-near : (s : State) (k : ℕ) → All (Near s (label s (getD (cluster s k .pixels) 0 0))) (neighbours w h s k)
   unfolding neighbours

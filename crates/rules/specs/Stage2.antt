@@ -41,11 +41,12 @@ outputAll s = record {
 }
 
 -- the labels at these places, neither 0 nor `own`, put into a rising list
-unfoldable pub labelsAt : State → ℕ → List (Option ℕ) → List ℕ → List ℕ
-labelsAt s own [] found = found
-labelsAt s own (off ∷ is) found = labelsAt s own is found
-labelsAt s own (some i ∷ is) found =
-    labelsAt s own is (if eqb (label s i) 0 || eqb (label s i) own then found else insert (label s i) found)
+unfoldable pub labelsAt : List ℕ → ℕ → List (Option ℕ) → List ℕ → List ℕ
+labelsAt labels own [] found = found
+labelsAt labels own (off ∷ is) found = labelsAt labels own is found
+labelsAt labels own (some i ∷ is) found =
+    let l = getD labels i 0 in
+    labelsAt labels own is (if eqb l 0 || eqb l own then found else insert l found)
 
 -- the difference of the averages of the sums of clusters j and k
 unfoldable pub diff : State → ℕ → ℕ → ℕ
@@ -70,15 +71,15 @@ allIn f (some i ∷ is) = f i && allIn f is
 
 module _ (w h : ℕ) where
   -- the labels around these pixels, neither 0 nor `own`, put into a rising list
-  unfoldable pub labelsAround : State → ℕ → List ℕ → List ℕ → List ℕ
+  unfoldable pub labelsAround : List ℕ → ℕ → List ℕ → List ℕ → List ℕ
   unfolding labelsAt sides
-  labelsAround s own [] found = found
-  labelsAround s own (p ∷ ps) found = labelsAround s own ps (labelsAt s own (sides w h p) found)
+  labelsAround labels own [] found = found
+  labelsAround labels own (p ∷ ps) found = labelsAround labels own ps (labelsAt labels own (sides w h p) found)
 
   -- the neighbours of cluster k, rising: the labels around its pixels, neither 0 nor the label of its first pixel
   unfoldable pub neighbours : State → ℕ → List ℕ
   unfolding labelsAround
-  neighbours s k = labelsAround s (label s (getD (cluster s k .pixels) 0 0)) (cluster s k .pixels) []
+  neighbours s k = labelsAround (s .labels) (label s (getD (cluster s k .pixels) 0 0)) (cluster s k .pixels) []
 
   -- the boundary: its pixels outside its own hole list with a 4-neighbour that is not such a pixel
   unfoldable pub boundary : State → ℕ → ℕ
