@@ -31,44 +31,32 @@ pub enum ColorOrNone {
     None,
 }
 
-fn distance(x: u8, y: u8) -> u32
+fn distance(x: u8, y: u8) -> u8
     ensures { λ r. ⌜ r ≡ apart x y ⌝ }
 {
-    if x < y {
-        (y - x) as u32
-    } else {
-        (x - y) as u32
-    }
+    if x < y { y - x } else { x - y }
 }
 
 // How far two colours differ: the distances of r, g and b, added. Alpha does not count.
 pub fn color_diff(a: Color, b: Color) -> u32
     ensures { λ r. ⌜ r ≡ colorDiff (colorOf a) (colorOf b) ⌝ }
 {
-    distance(a.r, b.r) + distance(a.g, b.g) + distance(a.b, b.b)
-}
-
-fn at_most(d: u32, thres: i32) -> bool
-    requires { ⌜ d < 256 ⌝ }
-    ensures { λ r. ⌜ r ≡ atMost d thres ⌝ }
-{
-    d as i32 <= thres
+    distance(a.r, b.r) as u32 + distance(a.g, b.g) as u32 + distance(a.b, b.b) as u32
 }
 
 fn close(x: u8, y: u8, shift: u32, thres: i32) -> bool
-    requires { ⌜ shift < 8 ⌝ }
     ensures { λ r. ⌜ r ≡ atMost (apart (x / 2 ^ shift) (y / 2 ^ shift)) thres ⌝ }
 {
-    at_most(distance(x >> shift, y >> shift), thres)
+    if 7 < shift {
+        return 0 <= thres;
+    }
+    distance(x >> shift, y >> shift) as i32 <= thres
 }
 
 // Whether two colours are like: r, g and b, each shifted right, differ by at most thres. A shift above 7 leaves nothing of a channel.
 pub fn color_same(a: Color, b: Color, shift: u32, thres: i32) -> bool
     ensures { λ r. ⌜ r ≡ colorSame (pos shift) thres (colorOf a) (colorOf b) ⌝ }
 {
-    if 7 < shift {
-        return at_most(0, thres);
-    }
     close(a.r, b.r, shift, thres) & close(a.g, b.g, shift, thres) & close(a.b, b.b, shift, thres)
 }
 

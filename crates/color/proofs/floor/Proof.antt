@@ -1,3 +1,5 @@
+use native.Mathlib.Omega.{arith}
+use native.Mathlib.Nat.{div-lt-iff-lt-mul}
 use borrow.Author.Needs.{needs}
 use Rattle.color.proofs.floor.Statement.{statement}
 use Rattle.color.proofs.floor.Tie as tie
@@ -10,7 +12,7 @@ div-result c = search needs
 
 -- src/lib.rt:130:5
 cast-result : tie.Need-cast-result
-cast-result c = ?
+cast-result c = record { fits = div-lt-iff-lt-mul (c .pre .0) .1 (omega arith) }
 
 -- src/lib.rt:126:1
 returns : tie.Need-returns

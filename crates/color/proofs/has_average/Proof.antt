@@ -1,3 +1,4 @@
+use Rattle.rules.specs.Color.{hasAverage}
 use borrow.Author.Needs.{needs}
 use Rattle.color.proofs.has_average.Statement.{statement}
 use Rattle.color.proofs.has_average.Tie as tie
@@ -23,7 +24,8 @@ within-requires-4 c κs = search needs
 
 -- src/lib.rt:133:1
 returns : tie.Need-returns
-returns c = ?
+unfolding hasAverage
+returns c = cc
 
 pub has-average-spec : {M : Type 1} → statement M
 has-average-spec =
