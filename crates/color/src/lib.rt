@@ -95,14 +95,12 @@ pub fn pixel_at(image: &[u8], w: u32, h: u32, x: u32, y: u32) -> ColorOrNone
         return ColorOrNone::None;
     }
     let i = 4 * at;
-    ColorOrNone::Some(
-        Color {
-            r: image[i],
-            g: image[i + 1],
-            b: image[i + 2],
-            a: image[i + 3],
-        },
-    )
+    ColorOrNone::Some(Color {
+        r: image[i],
+        g: image[i + 1],
+        b: image[i + 2],
+        a: image[i + 3],
+    })
 }
 
 fn within(channel: u32, counter: u32) -> bool
@@ -132,14 +130,12 @@ impl ColorSum {
     {
         if has_average(self) {
             let n = self.counter;
-            ColorOrNone::Some(
-                Color {
-                    r: floor(self.r, n),
-                    g: floor(self.g, n),
-                    b: floor(self.b, n),
-                    a: floor(self.a, n),
-                },
-            )
+            ColorOrNone::Some(Color {
+                r: floor(self.r, n),
+                g: floor(self.g, n),
+                b: floor(self.b, n),
+                a: floor(self.a, n),
+            })
         } else {
             ColorOrNone::None
         }

@@ -1,11 +1,8 @@
-use mathlib.Core.Path.{_≡_, refl, sym, ap, _∙_}
+use mathlib.Core.Path.{refl}
 use Rattle.rules.specs.Color.{equalColor}
 use Rattle.color.proofs.equal.Statement.{statement}
 use Rattle.color.proofs.equal.Tie as tie
-use Rattle.color.proofs.equal.Reads as reads
-use Rattle.color.proofs.equal.Lts as lts
 
--- src/lib.rt:89:1
 returns : tie.Need-returns
 unfolding equalColor
 returns c = refl
