@@ -1,5 +1,5 @@
-// Colours, sums of colours and the two questions asked of colours, after the Rust's `color.rs` and `runner.rs`. Every call is total: it asks nothing
-// of its caller, and where the rules have no colour it answers None.
+// Colours, sums of colours, and what is asked of them, after the Rust's `color.rs` and `runner.rs`. No call asks anything of its caller: where the
+// rules have no colour it answers None.
 ghost use mathlib.Core.Path.{_≡_};
 ghost use Prim.Native.Nat.{_*_, _/_, _^_, _≤_, _<_};
 ghost use lib.Dec.{leb};
@@ -16,7 +16,7 @@ pub struct Color {
     pub a: u8,
 }
 
-// The sums of the channels of counter colours.
+// The channels of counter colours, each summed.
 pub struct ColorSum {
     pub r: u32,
     pub g: u32,
@@ -31,6 +31,7 @@ pub enum ColorOrNone {
     None,
 }
 
+// The distance of two channels.
 fn distance(x: u8, y: u8) -> u8
     ensures { λ r. ⌜ r ≡ apart x y ⌝ }
 {
@@ -44,6 +45,7 @@ pub fn color_diff(a: Color, b: Color) -> u32
     distance(a.r, b.r) as u32 + distance(a.g, b.g) as u32 + distance(a.b, b.b) as u32
 }
 
+// Whether two channels, each shifted right, differ by at most thres. A shift above 7 leaves nothing of them.
 fn close(x: u8, y: u8, shift: u32, thres: i32) -> bool
     ensures { λ r. ⌜ r ≡ atMost (apart (x / 2 ^ shift) (y / 2 ^ shift)) thres ⌝ }
 {
@@ -53,7 +55,7 @@ fn close(x: u8, y: u8, shift: u32, thres: i32) -> bool
     distance(x >> shift, y >> shift) as i32 <= thres
 }
 
-// Whether two colours are like: r, g and b, each shifted right, differ by at most thres. A shift above 7 leaves nothing of a channel.
+// Whether two colours are like: r, g and b, each shifted right, differ by at most thres. Alpha does not count.
 pub fn color_same(a: Color, b: Color, shift: u32, thres: i32) -> bool
     ensures { λ r. ⌜ r ≡ colorSame (pos shift) thres (colorOf a) (colorOf b) ⌝ }
 {
@@ -103,12 +105,14 @@ pub fn pixel_at(image: &[u8], w: u32, h: u32, x: u32, y: u32) -> ColorOrNone
     })
 }
 
+// Whether a channel's sum is at most 255 for each colour counted.
 fn within(channel: u32, counter: u32) -> bool
     ensures { λ r. ⌜ r ≡ leb channel (255 * counter) ⌝ }
 {
     channel as u64 <= 255 * counter as u64
 }
 
+// The average of a channel, rounded down.
 fn floor(channel: u32, counter: u32) -> u8
     requires { ⌜ (0 < counter) × (channel ≤ 255 * counter) ⌝ }
     ensures { λ r. ⌜ r ≡ channel / counter ⌝ }
@@ -116,6 +120,7 @@ fn floor(channel: u32, counter: u32) -> u8
     (channel / counter) as u8
 }
 
+// Whether a sum has an average: it counts something, and no channel exceeds 255 × counter.
 fn has_average(s: ColorSum) -> bool
     ensures { λ r. ⌜ r ≡ hasAverage (sumOf s) ⌝ }
 {
@@ -124,7 +129,7 @@ fn has_average(s: ColorSum) -> bool
 }
 
 impl ColorSum {
-    // The average, each channel a floor; None where the sum counts nothing or a channel exceeds 255 × counter.
+    // The average, each channel rounded down; None where the sum counts nothing or a channel exceeds 255 × counter.
     pub fn average(self) -> ColorOrNone
         ensures { λ r. ⌜ optionOf r ≡ averageOrNone (sumOf self) ⌝ }
     {

@@ -16,12 +16,4 @@ returns-2 c = rw (← c .distance .ensures) (at-most {d = c .distance .result} (
 pub close-spec : {M : Type 1} → statement M
 close-spec =
     tie.close
-    (tie.spec
-    returns
-    (search needs)
-    (search needs)
-    (search needs)
-    (search needs)
-    (search needs)
-    (search needs)
-    returns-2)
+    (tie.spec returns (search needs) (search needs) (search needs) (search needs) (search needs) (search needs) returns-2)

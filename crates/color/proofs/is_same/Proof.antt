@@ -31,12 +31,4 @@ returns-3 c =
 pub is-same-spec : {M : Type 1} → statement M
 is-same-spec =
     tie.close
-    (tie.spec
-    (search needs)
-    (search needs)
-    returns
-    (search needs)
-    (search needs)
-    returns-2
-    (search needs)
-    returns-3)
+    (tie.spec (search needs) (search needs) returns (search needs) (search needs) returns-2 (search needs) returns-3)

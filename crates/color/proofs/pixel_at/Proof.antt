@@ -6,7 +6,7 @@ use lib.Dec.{leb}
 use borrow.Author.Needs.{needs}
 use borrow.Author.Tests.{lt-ltb, le-ltb, le-leb, lt-leb}
 use Rattle.rules.specs.Color.{pixel, pixelAt}
-use Rattle.color.proofs.Laws.{place-fits}
+use Rattle.color.proofs.Laws.{place-fits, row-fits}
 use Rattle.color.proofs.pixel_at.Statement.{statement}
 use Rattle.color.proofs.pixel_at.Tie as tie
 
@@ -25,12 +25,6 @@ returns-2 : tie.Need-returns-2
 unfolding pixelAt
 returns-2 c = rw (lt-ltb _ _ (c .before .if1 .left), le-ltb _ _ (c .if2 .taken))
 
-mul-at : tie.Need-mul-at
-mul-at c = let s = c .before .before .fits in omega (arith, place-fits (s .w) (s .x) (s .y))
-
-add-at : tie.Need-add-at
-add-at c = let s = c .before .before .fits in omega (arith, place-fits (s .w) (s .x) (s .y))
-
 returns-3 : tie.Need-returns-3
 unfolding pixelAt
 returns-3 c = rw (lt-ltb _ _ (c .before .before .if1 .left), lt-ltb _ _ (c .before .if2 .left), ends _ _ (c .if3 .taken))
@@ -44,18 +38,4 @@ returns-4 c =
 pub pixel-at-spec : {M : Type 1} → statement M
 pixel-at-spec =
     tie.close
-    (tie.spec
-    returns
-    returns-2
-    mul-at
-    add-at
-    returns-3
-    (search needs)
-    (search needs)
-    (search needs)
-    (search needs)
-    (search needs)
-    (search needs)
-    (search needs)
-    (search needs)
-    returns-4)
+    (tie.spec returns returns-2 (λ c. row-fits (search needs) (search needs)) (λ c. place-fits (search needs) (search needs) (search needs)) returns-3 (search needs) (search needs) (search needs) (search needs) (search needs) (search needs) (search needs) (search needs) returns-4)

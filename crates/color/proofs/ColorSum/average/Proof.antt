@@ -19,23 +19,16 @@ passed s e h =
     (pos-of-ne-zero (eqb-false _ _ (not-true _ (r .0))), leb-true _ _ (r .1), leb-true _ _ (g .1), leb-true _ _ (b .1), leb-true _ _ (a .1))
 
 floor-requires : tie.Need-floor-requires
-floor-requires c κs =
-    let p = passed _ (c .before .has-average .ensures) (c .if1 .taken) in search needs
+floor-requires c κs = let p = passed _ (c .before .has-average .ensures) (c .if1 .taken) in search needs
 
 floor-requires-2 : tie.Need-floor-requires-2
-floor-requires-2 c κs =
-    let s = c .before in
-    let p = passed _ (s .before .has-average .ensures) (s .if1 .taken) in search needs
+floor-requires-2 c κs = let s = c .before in let p = passed _ (s .before .has-average .ensures) (s .if1 .taken) in search needs
 
 floor-requires-3 : tie.Need-floor-requires-3
-floor-requires-3 c κs =
-    let s = c .before .before in
-    let p = passed _ (s .before .has-average .ensures) (s .if1 .taken) in search needs
+floor-requires-3 c κs = let s = c .before .before in let p = passed _ (s .before .has-average .ensures) (s .if1 .taken) in search needs
 
 floor-requires-4 : tie.Need-floor-requires-4
-floor-requires-4 c κs =
-    let s = c .before .before .before in
-    let p = passed _ (s .before .has-average .ensures) (s .if1 .taken) in search needs
+floor-requires-4 c κs = let s = c .before .before .before in let p = passed _ (s .before .has-average .ensures) (s .if1 .taken) in search needs
 
 returns : tie.Need-returns
 unfolding averageOrNone average
@@ -50,11 +43,4 @@ returns-2 c = rw (sym (c .before .has-average .ensures) ∙ c .if1 .left)
 pub average-spec : {M : Type 1} → statement M
 average-spec =
     tie.close
-    (tie.spec
-    (search needs)
-    floor-requires
-    floor-requires-2
-    floor-requires-3
-    floor-requires-4
-    returns
-    returns-2)
+    (tie.spec (search needs) floor-requires floor-requires-2 floor-requires-3 floor-requires-4 returns returns-2)
