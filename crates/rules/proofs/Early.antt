@@ -15,7 +15,7 @@ use lib.Seq.{getD-set-same, getD-set-other, getD-append-seam}
 use Rattle.rules.specs.Base.{if_then_else_, times}
 use Rattle.rules.specs.Color.{Color, RunnerConfig, ColorSum, zeroSum, one, _⊕_, pixel, isDiscard}
 use Rattle.rules.specs.Grid.{up, left, upLeft}
-use Rattle.rules.specs.State.{State, Cluster, BoundingRect, newCluster, cluster, label, area, pixelRect, withPixel, emptied, withResidue, fresh, add, beginCluster, combine, added, plain}
+use Rattle.rules.specs.State.{State, Cluster, BoundingRect, newCluster, cluster, label, area, pixelRect, withPixel, withCluster, emptied, withResidue, fresh, add, beginCluster, combine, added, plain}
 use Rattle.rules.specs.Stage1.{sameAt, labelAt, leftMeetsUp, lowerNext, isKey, place, combineThenPlace, takePixel, taken}
 use Rattle.rules.specs.Stage2.{prepareStage2}
 use Rattle.rules.specs.Ledger.{Held, enter, ledger, owned}
@@ -23,7 +23,7 @@ use Rattle.rules.specs.Claim.{bit, occurs, tally, countOf, Stands}
 use Rattle.rules.proofs.Facts.{standing, countOf-le, countOf-more, countOf-swap, countOf-none}
 use Rattle.rules.proofs.Facts.{is-true, is-false, T-dec, T-or, T-or-l, T-or-r, eqb-yes, eqb-no, bit-or, bit-T, T-bit, occurs-append, length-relabel, ⊕-comm, tally-or, tally-none, tally-one}
 use Rattle.rules.proofs.Forest.{flat}
-use Rattle.rules.proofs.Basic.{Basic, Moved, three, plain-down, plain-to, plain-up, lab-from, lab-other, plain-basic, combine-f, combine-moved}
+use Rattle.rules.proofs.Basic.{Basic, Moved, three, plain-down, plain-to, plain-up, lab-from, lab-other, plain-basic, combine-f, combine-t, combine-moved}
 use Rattle.rules.proofs.Sound.{Sound}
 use Rattle.rules.proofs.Visits.{Going, times-keep, eqb-ne, eqb-is}
 
@@ -40,6 +40,7 @@ pub record Early (image : List ℕ) (size : ℕ) (Gone : ℕ → Type 0) (Keyed 
   pub room : s .next ≤ length (s .clusters)
   pub some : 1 ≤ s .next
   pub roots : (k : ℕ) → cluster s k .mergedInto ≡ 0
+  pub no-holes : (k : ℕ) → cluster s k .holes ≡ []
   pub same : owned (s .log) ≡ ledger (s .log)
   pub quiet : s .outputs ≡ []
   -- at most one slot a pixel beside slot 0, and at most one standing cluster a pixel
@@ -73,6 +74,7 @@ pub record Adds (image : List ℕ) (size : ℕ) (i k : ℕ) (s s′ : State) : T
   pub k-pixels : (p : ℕ) → occurs p (cluster s′ k .pixels) ≡ bit (ledger (s .log) k p) + bit (eqb p i)
   pub k-sum : cluster s′ k .sum ≡ tally image (ledger (s .log) k) size ⊕ one (pixel image i)
   pub k-root : cluster s′ k .mergedInto ≡ 0
+  pub k-holes : cluster s′ k .holes ≡ []
   pub other : (j : ℕ) → j ≢ k → cluster s′ j ≡ cluster s j
   pub labels : s′ .labels ≡ set (s .labels) i k
   pub grows : length (s .clusters) ≤ length (s′ .clusters)
@@ -232,6 +234,7 @@ module _ {image : List ℕ} {size : ℕ} {Gone : ℕ → Type 0} {Keyed : Type 0
           room = A .next-room;
           some = omega (arith, E .some, A .next-up);
           roots = two k (λ j. cluster s′ j .mergedInto ≡ 0) (A .k-root) (λ j n. ap (λ c. c .mergedInto) (A .other j n) ∙ E .roots j);
+          no-holes = two k (λ j. cluster s′ j .holes ≡ []) (A .k-holes) (λ j n. ap (λ c. c .holes) (A .other j n) ∙ E .no-holes j);
           same = q;
           quiet = A .outs ∙ E .quiet;
           short = omega (arith, E .short, A .one-slot);
@@ -274,6 +277,7 @@ module _ {image : List ℕ} {size : ℕ} {Gone : ℕ → Type 0} {Keyed : Type 0
     k-pixels = λ p. ap (λ c. occurs p (c .pixels)) here ∙ occurs-append p (cluster s k .pixels) (i ∷ []) ∙ omega (arith, E .basic .lists k p);
     k-sum = ap (λ c. c .sum) here ∙ ap (λ x. x ⊕ one (pixel image i)) (E .basic .sums k);
     k-root = ap (λ c. c .mergedInto) here ∙ E .roots k;
+    k-holes = ap (λ c. c .holes) here ∙ E .no-holes k;
     other = λ j n. getD-set-other (s .clusters) k j _ newCluster n;
     labels = refl;
     grows = omega (arith, length-set (s .clusters) k (withPixel i (pixel image i) at (cluster s k)));
@@ -294,6 +298,7 @@ module _ {image : List ℕ} {size : ℕ} {Gone : ℕ → Type 0} {Keyed : Type 0
     k-pixels = λ p. ap (λ c. occurs p (c .pixels)) (P .here) ∙ omega (arith, ap bit (none-held p));
     k-sum = ap (λ c. c .sum) (P .here) ∙ ap (λ x. x ⊕ one (pixel image i)) (sym (tally-none image size) ∙ ap (λ g. tally image g size) (sym (fun-ext none-held)));
     k-root = ap (λ c. c .mergedInto) (P .here);
+    k-holes = ap (λ c. c .holes) (P .here);
     other = P .other;
     labels = refl;
     grows = P .grows;
@@ -342,7 +347,7 @@ module _ {image : List ℕ} {size : ℕ} {Gone : ℕ → Type 0} {Keyed : Type 0
     combine-empty p x = plain-down (ledger (s .log)) f t n f p x .0 refl
 
     pub combine-early : Early image size Gone Keyed i (combine f t s)
-    unfolding combine emptied J
+    unfolding combine emptied withCluster J
     combine-early = record {
       basic = plain-basic (E .basic) f t n apart t-slot J (ap (λ c. c .pixels) (combine-f f t s n f-slot t-slot)) (ap (λ c. c .sum) (combine-f f t s n f-slot t-slot));
       flats = λ k p x. flat′ k p (plain-down g f t n k p x .0) (plain-down g f t n k p x .1);
@@ -355,6 +360,8 @@ module _ {image : List ℕ} {size : ℕ} {Gone : ℕ → Type 0} {Keyed : Type 0
       some = E .some;
       roots = three f t (λ k. cluster (combine f t s) k .mergedInto ≡ 0) (ap (λ c. c .mergedInto) (combine-f f t s n f-slot t-slot) ∙ E .roots f) (J .t-merged ∙ E .roots t)
           (λ k a b. ap (λ c. c .mergedInto) (J .other k a b) ∙ E .roots k);
+      no-holes = three f t (λ k. cluster (combine f t s) k .holes ≡ []) (ap (λ c. c .holes) (combine-f f t s n f-slot t-slot) ∙ E .no-holes f) (ap (λ c. c .holes) (combine-t f t s n f-slot t-slot) ∙ E .no-holes t)
+          (λ k a b. ap (λ c. c .holes) (J .other k a b) ∙ E .no-holes k);
       same = ap (enter (plain f t)) (E .same);
       quiet = E .quiet;
       short = omega (arith, E .short, J .table);
@@ -441,6 +448,7 @@ module _ {image : List ℕ} {size : ℕ} {Gone : ℕ → Type 0} {Keyed : Type 0
         room = omega (arith, E .room);
         some = b;
         roots = E .roots;
+        no-holes = E .no-holes;
         same = E .same;
         quiet = E .quiet;
         short = E .short;
@@ -494,6 +502,7 @@ module _ {image : List ℕ} {size : ℕ} {Gone : ℕ → Type 0} {Keyed : Type 0
           room = E .room;
           some = E .some;
           roots = E .roots;
+          no-holes = E .no-holes;
           same = E .same;
           quiet = E .quiet;
           short = omega (arith, E .short);
@@ -598,6 +607,7 @@ module _ {image : List ℕ} {size : ℕ} {Gone : ℕ → Type 0} {Keyed : Type 0
     room = omega arith;
     some = omega arith;
     roots = λ k. ap (λ c. c .mergedInto) (fresh-cluster size k);
+    no-holes = λ k. ap (λ c. c .holes) (fresh-cluster size k);
     same = refl;
     quiet = refl;
     short = omega arith;

@@ -23,6 +23,7 @@ pub mod Largest
 pub mod Slots
 pub mod Interior
 pub mod Ranges
+pub mod Holes
 pub mod Labels
 pub mod Neighbours
 pub mod Turns

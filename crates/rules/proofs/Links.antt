@@ -30,20 +30,20 @@ after-none p [] e = refl
 after-none p (x ∷ []) e = refl
 after-none p (x ∷ y ∷ r) e = rw (eqb-no p x (differ p x (occurs p (y ∷ r)) e)) (after-none p (y ∷ r) (omega arith))
 
-after-skip : (p : ℕ) (xs ys : List ℕ) → occurs p xs ≡ 0 → after p (xs ++ ys) ≡ after p ys
+pub after-skip : (p : ℕ) (xs ys : List ℕ) → occurs p xs ≡ 0 → after p (xs ++ ys) ≡ after p ys
 unfolding after
 after-skip p [] ys e = refl
 after-skip p (x ∷ []) [] e = refl
 after-skip p (x ∷ []) (y ∷ ys) e = rw (eqb-no p x (differ p x 0 e)) refl
 after-skip p (x ∷ z ∷ r) ys e = rw (eqb-no p x (differ p x (occurs p (z ∷ r)) e)) (after-skip p (z ∷ r) ys (omega arith))
 
-last-in : (x : ℕ) (r : List ℕ) → occurs (last (x ∷ r)) (x ∷ r) ≢ 0
+pub last-in : (x : ℕ) (r : List ℕ) → occurs (last (x ∷ r)) (x ∷ r) ≢ 0
 unfolding last
 last-in x [] e = differ x x 0 e refl
 last-in x (y ∷ r) e = last-in y r (omega arith)
 
 -- at the last entry the second list begins
-after-last : (xs ys : List ℕ) → occurs (last xs) xs ≡ 1 → after (last xs) (xs ++ ys) ≡ firstOf ys
+pub after-last : (xs ys : List ℕ) → occurs (last xs) xs ≡ 1 → after (last xs) (xs ++ ys) ≡ firstOf ys
 unfolding after last firstOf
 after-last [] ys e = absurd (omega arith)
 after-last (x ∷ []) [] e = refl
@@ -54,7 +54,7 @@ after-last (x ∷ z ∷ r) ys e = rw (eqb-no (last (z ∷ r)) x neq) (after-last
     neq q = let b : bit (eqb (last (z ∷ r)) x) ≡ 1 = ap bit (eqb-yes (last (z ∷ r)) x q) in last-in z r (omega arith)
 
 -- before it nothing changes
-after-before : (p : ℕ) (xs ys : List ℕ) → occurs p xs ≢ 0 → p ≢ last xs → after p (xs ++ ys) ≡ after p xs
+pub after-before : (p : ℕ) (xs ys : List ℕ) → occurs p xs ≢ 0 → p ≢ last xs → after p (xs ++ ys) ≡ after p xs
 unfolding after last
 after-before p [] ys n d = absurd (n refl)
 after-before p (x ∷ []) ys n d = absurd (n (let b : bit (eqb p x) ≡ 0 = ap bit (eqb-no p x d) in omega arith))
@@ -84,22 +84,25 @@ module _ {image : List ℕ} {size : ℕ} {h : Held} {s s′ : State} (B : Basic 
       ∙ after-last (cluster s t .pixels) (cluster s f .pixels) (held-some t (last (cluster s t .pixels)) x)
 
   -- any other
-  pub link-other : (p : ℕ) → p ≢ last (cluster s t .pixels) → (label s p ≡ f → T (h f p)) → link s′ p ≡ link s p
+  pub link-other : (p : ℕ) → p ≢ last (cluster s t .pixels) → (occurs p (cluster s f .pixels) ≡ 0 → occurs p (cluster s′ f .pixels) ≡ 0) → link s′ p ≡ link s p
   unfolding link
-  link-other p d shown = pick (T-dec (h f p)) (T-dec (h t p)) (ℕ-discrete (label s p) t)
+  link-other p d less = pick (T-dec (h f p)) (T-dec (h t p)) (ℕ-discrete (label s p) t) (ℕ-discrete (label s p) f)
     where
       lab : (T (h f p) → ⊥) → label s′ p ≡ label s p
       lab = lab-other B f t n apart ht M p
 
-      pick : Dec (T (h f p)) → Dec (T (h t p)) → Dec (label s p ≡ t) → after p (cluster s′ (label s′ p) .pixels) ≡ after p (cluster s (label s p) .pixels)
-      pick (yes x) y z =
+      pick : Dec (T (h f p)) → Dec (T (h t p)) → Dec (label s p ≡ t) → Dec (label s p ≡ f) → after p (cluster s′ (label s′ p) .pixels) ≡ after p (cluster s (label s p) .pixels)
+      pick (yes x) y z v =
           at-t p (lab-from B f t n apart ht M p x) ∙ after-skip p (cluster s t .pixels) (cluster s f .pixels) (held-none t p (λ v. apart p v x))
           ∙ ap (λ m. after p (cluster s m .pixels)) (sym (f-tops p x))
-      pick (no x) (yes y) z =
+      pick (no x) (yes y) z v =
           at-t p (lab x ∙ t-tops p y) ∙ after-before p (cluster s t .pixels) (cluster s f .pixels) (λ q. let o = held-some t p y in omega arith) d
           ∙ ap (λ m. after p (cluster s m .pixels)) (sym (t-tops p y))
-      pick (no x) (no y) (yes z) =
+      pick (no x) (no y) (yes z) v =
           at-t p (lab x ∙ z) ∙ after-none p (cluster s t .pixels ++ cluster s f .pixels) (occurs-append p (cluster s t .pixels) (cluster s f .pixels) ∙ omega (arith, held-none t p y, held-none f p x))
           ∙ sym (after-none p (cluster s t .pixels) (held-none t p y)) ∙ ap (λ m. after p (cluster s m .pixels)) (sym z)
-      pick (no x) (no y) (no z) =
-          ap (λ m. after p (cluster s′ m .pixels)) (lab x) ∙ ap (λ c. after p (c .pixels)) (M .other (label s p) (λ q. x (shown q)) z)
+      pick (no x) (no y) (no z) (yes v) =
+          ap (λ m. after p (cluster s′ m .pixels)) (lab x ∙ v) ∙ after-none p (cluster s′ f .pixels) (less (held-none f p x))
+          ∙ sym (after-none p (cluster s f .pixels) (held-none f p x)) ∙ ap (λ m. after p (cluster s m .pixels)) (sym v)
+      pick (no x) (no y) (no z) (no v) =
+          ap (λ m. after p (cluster s′ m .pixels)) (lab x) ∙ ap (λ c. after p (c .pixels)) (M .other (label s p) v z)

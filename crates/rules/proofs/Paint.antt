@@ -48,7 +48,7 @@ getD-in (x ∷ xs) (suc i) l = inr (getD-in xs i (omega arith))
 -- ---- a list along the links
 
 module _ (size : ℕ) (s : State) (ls : List ℕ) (same : (p : ℕ) → p < size → getD ls p 0 ≡ link s p) where
-  reads-walk : (c v : ℕ) → length (walk (link s) v c) ≡ c → Below size (walk (link s) v c) → T (reads size ls v c) × (walk (λ p. getD ls p 0) v c ≡ walk (link s) v c)
+  pub reads-walk : (c v : ℕ) → length (walk (link s) v c) ≡ c → Below size (walk (link s) v c) → T (reads size ls v c) × (walk (λ p. getD ls p 0) v c ≡ walk (link s) v c)
   unfolding walk
   reads-walk zero v e b = (tt, refl)
   reads-walk (suc c) zero e b = absurd (omega arith)

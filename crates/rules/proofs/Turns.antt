@@ -8,11 +8,11 @@ use Prim.Native.Nat.{ℕ, zero, suc, _+_, _*_, _≤_, _<_}
 use native.Mathlib.Decide.{ℕ-discrete, decLt}
 use native.Mathlib.Omega.{arith}
 use lib.Dec.{T, eqb, ltb, leb}
-use lib.ListN.{length, getD, length-append}
+use lib.ListN.{length, getD, length-append, length-map}
 use Rattle.rules.specs.Base.{if_then_else_, noneAbove, member}
 use Rattle.rules.specs.Color.{RunnerConfig, isDiscard, exceeds}
 use Rattle.rules.specs.Grid.{sides}
-use Rattle.rules.specs.State.{State, cluster, label, area, put, merge, deepen}
+use Rattle.rules.specs.State.{State, cluster, label, area, withResidue, put, merge, deepen}
 use Rattle.rules.specs.Stage1.{isKey}
 use Rattle.rules.specs.Stage2.{allIn, neighbours, diff, deepens, decide, visit, prepareStage2}
 use Rattle.rules.specs.Run.{stage1, stage2, dropEmpty, run}
@@ -20,9 +20,11 @@ use Rattle.rules.specs.Order.{Queue, pick, rekey, queue, start, turn, tu
 use Rattle.rules.specs.Ledger.{ledger}
 use Rattle.rules.specs.Demand3.{Agrees}
 use Rattle.rules.proofs.Facts.{eqb-yes}
-use Rattle.rules.proofs.Visits.{root, visit-cases, isolated-cases}
+use Rattle.rules.proofs.Basic.{merge-moved, deepen-moved}
+use Rattle.rules.proofs.Visits.{Going, root, k≢t, k-slot, t-slot, visit-cases, isolated-cases}
+use Rattle.rules.proofs.Whole.{early}
 use Rattle.rules.proofs.Bounds.{outputs-bound}
-use Rattle.rules.proofs.Order.{Picked, turning-picked, turns-idle, turns-few, drained-stage2}
+use Rattle.rules.proofs.Order.{Picked, turning-picked, turns-keep, start-turning, turns-idle, turns-few, drained-stage2}
 use Rattle.rules.proofs.Largest.{none-above, turns-listed}
 use Rattle.rules.proofs.Interior.{deepens-interior, turns-hollowed}
 use Rattle.rules.proofs.Labels.{turns-agrees, member-label, interior-labels}
@@ -126,3 +128,21 @@ turns-outputs o w h image m = go (decLt (2 * (w * h)) m)
     go : Dec (2 * (w * h) < m) → length (turns o w h m q .now .outputs) ≤ 2 * (w * h)
     go (yes l) = omega (arith, ap (λ u. length (u .now .outputs)) (turns-idle o w h q (2 * (w * h)) (idle (pick (turns o w h (2 * (w * h)) q .keys)) refl) m (omega arith)), all)
     go (no l) = omega (arith, turns-grow o w h q m (2 * (w * h)) (omega arith), all)
+
+-- stage 2 adds no slot: before and after every turn there are those of stage 1
+pub turns-table : (o : RunnerConfig) (w h : ℕ) (image : List ℕ) (m : ℕ) → length (turns o w h m (start (prepareStage2 (stage1 o w h image))) .now .clusters) ≡ length (stage1 o w h image .clusters)
+unfolding start prepareStage2 put
+turns-table o w h image m = turns-keep o w h Whole step (start (prepareStage2 (stage1 o w h image))) (start-turning o w h image, length-map (stage1 o w h image .clusters) (λ c. withResidue (c .sum) c)) m .1
+  where
+    Whole : State → Type 0
+    Whole u = length (u .clusters) ≡ length (stage1 o w h image .clusters)
+
+    step : (a k : ℕ) (s : State) → Going image (w * h) a k s → 0 < a → area (cluster s k) ≡ a → Whole s → Whole (visit o w h a k s)
+    step a k s G pos e W =
+        visit-cases o w h a k s Whole (λ x. W) (λ z l. W) (λ z l y. isolated-cases o w h a k s Whole W W)
+        (λ z l t N. merge-moved k t s (k≢t a k s G pos e t N) (k-slot a k s G pos e t N) (t-slot a k s G pos e t N) .table ∙ W)
+        (λ z l t N b. deepen-moved k t s (k≢t a k s G pos e t N) (k-slot a k s G pos e t N) (t-slot a k s G pos e t N) b .table ∙ W)
+
+-- at most one for each pixel beside slot 0
+pub turns-slots : (o : RunnerConfig) (w h : ℕ) (image : List ℕ) (m : ℕ) → length (turns o w h m (start (prepareStage2 (stage1 o w h image))) .now .clusters) ≤ w * h + 1
+turns-slots o w h image m = omega (arith, turns-table o w h image m, early o w h image .short)
