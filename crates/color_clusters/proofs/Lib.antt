@@ -1,0 +1,22 @@
+-- Laws that belong to no one function.
+pub mod Walks
+pub mod Places
+pub mod Slots
+pub mod Tables
+pub mod Tails
+pub mod PlainSlots
+pub mod RepStage1
+pub mod Tournament
+pub mod Queues
+pub mod Nearest
+pub mod Rows
+pub mod Joined
+pub mod RepStage2
+pub mod RepHollow
+pub mod RepReads
+pub mod Ops
+pub mod Answers
+pub mod Counted
+pub mod Spots
+pub mod Stage1Laws
+pub mod Stage1Steps

@@ -1,0 +1,64 @@
+use mathlib.Core.Path.{sym, _∙_}
+use native.Mathlib.Omega.{arith}
+use borrow.Author.Needs.{needs}
+use Rattle.color_clusters.proofs.Spots.{spot-column, spot-row}
+use Rattle.color_clusters.proofs.Stage1Steps.{pixel-in, take-placing, take-meeting, take-met, take-placed}
+use Rattle.color_clusters.proofs.stage1.take_pixel.Statement.{statement}
+use Rattle.color_clusters.proofs.stage1.take_pixel.Tie as tie
+
+up-label-requires : tie.Need-up-label-requires
+up-label-requires c κs = let Q = c .before .before .before .before .before .before .pre .1 in (Q .given .columns, sym (spot-row (Q .spot)), pixel-in Q)
+
+left-label-requires : tie.Need-left-label-requires
+left-label-requires c κs = let Q = c .before .before .before .before .before .before .before .before .pre .1 in (pixel-in Q, omega (arith, Q .spot .index))
+
+combine-then-place-requires : tie.Need-combine-then-place-requires
+combine-then-place-requires c κs =
+    let p = c .before .before .before .before .before .before .before .before .before .before .before .before .before .before .before .pre in
+    let Q = p .1 in (
+      _,
+      p .0,
+      take-meeting Q (c .before .before .before .before .before .before .left-label .ensures _ _ (Q .holding .rep .labelled) (sym (spot-column (Q .spot)))) (c .before .before .before .before .before .before .before .before .up-label .ensures _ (Q .holding .rep .labelled))
+          (sym (c .before .before .before .before .before .left-meets-up .ensures _ (Q .spot) (Q .given)) ∙ c .before .before .before .before .if1 .taken),
+    )
+
+returns : tie.Need-returns
+returns c t₀ Q =
+    let a = c .before .before .before .before .before .before .before .before .before .before .before .before .before .before .before in
+    let l = a .left-label .ensures _ _ (Q .holding .rep .labelled) (sym (spot-column (Q .spot))) in
+    let u = a .before .before .up-label .ensures _ (Q .holding .rep .labelled) in
+    let e = sym (c .before .before .before .before .before .before .before .before .before .before .before .before .before .before .left-meets-up .ensures _ (Q .spot) (Q .given)) ∙ c .before .before .before .before .before .before .before .before .before .before .before .before .before .if1 .taken in
+    take-met Q l u e (c .before .before .before .before .before .before .before .before .combine-then-place .ensures _ t₀ (take-meeting Q l u e))
+
+place-requires : tie.Need-place-requires
+place-requires c κs =
+    let p = c .before .before .before .before .before .before .before .before .before .before .before .before .before .before .before .pre in
+    let Q = p .1 in
+    (_, p .0, take-placing Q (c .before .before .before .before .before .before .left-label .ensures _ _ (Q .holding .rep .labelled) (sym (spot-column (Q .spot)))) (c .before .before .before .before .before .before .before .before .up-label .ensures _ (Q .holding .rep .labelled)))
+
+returns-2 : tie.Need-returns-2
+returns-2 c t₀ Q =
+    let a = c .before .before .before .before .before .before .before .before .before .before .before .before .before .before .before in
+    let l = a .left-label .ensures _ _ (Q .holding .rep .labelled) (sym (spot-column (Q .spot))) in
+    let u = a .before .before .up-label .ensures _ (Q .holding .rep .labelled) in
+    take-placed Q l u (sym (c .before .before .before .before .before .before .before .before .before .before .before .before .before .before .left-meets-up .ensures _ (Q .spot) (Q .given)) ∙ c .before .before .before .before .before .before .before .before .before .before .before .before .before .if1 .left) (c .before .before .before .before .before .before .before .before .place .ensures _ t₀ (take-placing Q l u))
+
+pub take-pixel-spec : {M : Type 1} → statement M
+take-pixel-spec =
+    tie.close
+    (tie.spec
+    up-label-requires
+    left-label-requires
+    (search needs)
+    combine-then-place-requires
+    (search needs)
+    (search needs)
+    (search needs)
+    (search needs)
+    returns
+    place-requires
+    (search needs)
+    (search needs)
+    (search needs)
+    (search needs)
+    returns-2)
