@@ -10,8 +10,8 @@ const DEFAULT_FOLDER: &str = "../../target/staticlib";
 
 fn main() {
     println!("cargo:rerun-if-env-changed=COLOR_CLUSTERS_LIB");
-    let folder =
-        PathBuf::from(env::var_os("COLOR_CLUSTERS_LIB").unwrap_or_else(|| DEFAULT_FOLDER.into()));
+    let given = env::var_os("COLOR_CLUSTERS_LIB").filter(|folder| !folder.is_empty());
+    let folder = PathBuf::from(given.unwrap_or_else(|| DEFAULT_FOLDER.into()));
     let archive = folder.join(ARCHIVE);
     println!("cargo:rerun-if-changed={}", archive.display());
     match archive.canonicalize() {
