@@ -7,6 +7,7 @@ pub mod cases;
 pub mod compare;
 pub mod leb128;
 pub mod model;
+pub mod options;
 pub mod original;
 pub mod parallel;
 pub mod record;

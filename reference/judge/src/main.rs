@@ -1,7 +1,6 @@
 //! The command line of the judge.
 
 mod commands;
-mod options;
 mod selection;
 
 use std::io::{self, BufWriter, Write};

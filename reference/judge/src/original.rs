@@ -30,7 +30,8 @@ pub fn stage_1_labels(case: &Case) -> Vec<u32> {
     labels_of(&builder.view())
 }
 
-fn runner(case: &Case) -> Runner {
+/// The original with the settings of `case` and a copy of its image, ready to run.
+pub fn runner(case: &Case) -> Runner {
     let settings = &case.settings;
     let config = RunnerConfig {
         diagonal: false,

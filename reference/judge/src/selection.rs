@@ -4,8 +4,7 @@ use std::ops::Range;
 
 use judge::case::Case;
 use judge::cases::{self, Kind};
-
-use crate::options::Options;
+use judge::options::Options;
 
 /// The options that select cases, for the help.
 pub const USAGE: &str = "[--kind K] [--seed S] [--from I] [--count N]";

@@ -2,10 +2,10 @@
 
 use std::io::{self, BufRead, Write};
 
+use judge::options::Options;
 use judge::{original, text};
 
 use super::Command;
-use crate::options::Options;
 use crate::Failure;
 
 pub const COMMAND: Command = Command {

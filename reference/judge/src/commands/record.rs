@@ -3,10 +3,10 @@
 use std::fs;
 use std::io::Write;
 
+use judge::options::Options;
 use judge::record;
 
 use super::Command;
-use crate::options::Options;
 use crate::Failure;
 
 pub const COMMAND: Command = Command {

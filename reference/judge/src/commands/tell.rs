@@ -4,10 +4,10 @@ use std::fs;
 use std::io::Write;
 
 use judge::model::Reading;
+use judge::options::Options;
 use judge::{record, tell};
 
 use super::Command;
-use crate::options::Options;
 use crate::Failure;
 
 const DEFAULT_PATH: &str = "answers.bin";
