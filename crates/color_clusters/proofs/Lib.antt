@@ -20,3 +20,12 @@ pub mod Counted
 pub mod Spots
 pub mod Stage1Laws
 pub mod Stage1Steps
+pub mod Parts
+pub mod Runs
+pub mod Carried
+pub mod Merges
+pub mod Moment
+pub mod Prepare
+pub mod Starting
+pub mod Turning
+pub mod Visiting

@@ -24,8 +24,8 @@ use Rattle.rules.proofs.Whole.{early-at}
 use Rattle.color_clusters.specs.declared.stage1.Into.the-variants.{Up, Left, Fresh}
 use Rattle.color_clusters.specs.Slots.{clearedSlot}
 use Rattle.color_clusters.specs.Rep.{Rep}
-use Rattle.color_clusters.specs.Ops.{CanAdd, Added, CanAppend, Combined}
-use Rattle.color_clusters.specs.Stage1.{Given, Spot, Holding, meets, intoOf, joined, CanBegin, Begun, Placing, Meeting, Taking}
+use Rattle.color_clusters.specs.Ops.{Added, CanAppend, Combined}
+use Rattle.color_clusters.specs.Stage1.{Holding, meets, intoOf, joined, Begun, Placing, Meeting, Taking}
 use Rattle.color_clusters.proofs.RepStage1.{rep-fresh, rep-lower, labels-long}
 use Rattle.color_clusters.proofs.Spots.{spot-in, left-earlier, up-earlier}
 use Rattle.color_clusters.proofs.Stage1Laws.{rep-is, at-is, in-table, slot-in, few, count-of, rep-added, rep-begun, can-append, rep-combined}

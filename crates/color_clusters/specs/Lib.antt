@@ -8,4 +8,6 @@ pub mod Neighbours
 pub mod Interior
 pub mod Stage2
 pub mod Outputs
+pub mod Exports
 pub mod Stage1
+pub mod Calls

@@ -1,3 +1,4 @@
+use mathlib.Core.Path.{_∙_}
 use borrow.Author.Needs.{needs}
 use Rattle.color_clusters.proofs.stage1.begin_cluster.Statement.{statement}
 use Rattle.color_clusters.proofs.stage1.begin_cluster.Tie as tie
@@ -16,4 +17,12 @@ returns c =
 pub begin-cluster-spec : {M : Type 1} → statement M
 begin-cluster-spec =
     tie.close
-    (tie.spec (search needs) add-requires slot-taken-requires (search needs) (search needs) (search needs) (search needs) returns)
+    (tie.spec
+    (search needs)
+    add-requires
+    slot-taken-requires
+    (λ c. c .before .before .before .before .before .before .before .before .before .add .kept .0)
+    (λ c. c .before .before .before .before .before .before .before .before .before .add .kept .1 .0)
+    (λ c. let a = c .before .before .before .before .before .before .before .before .before in a .add .kept .1 .1 .0 ∙ a .before .before .before .before .before .before .before .clear-slot .kept .0)
+    (λ c. c .before .before .before .before .before .before .before .before .before .add .kept .1 .1 .1 .0)
+    returns)

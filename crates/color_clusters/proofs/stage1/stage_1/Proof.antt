@@ -51,34 +51,43 @@ loop-holds c =
     }
 
 take-pixel-requires : tie.Need-take-pixel-requires Inv-loop μ-loop
-take-pixel-requires c κs = let p = c .before .before .before .before .before .before .before .before .before .before .before .before .before .before .before .pre in (_, taking (p .0) (c .before .before .before .before .before .loop .inv) (c .before .before .before .before .loop-test .taken) _ (c .before .before .before .before .before .before .before .before .clear-slot .ensures) (p .1 .table))
+take-pixel-requires c κs =
+    let a = c .before .before .before .before in
+    let b = a .before .before .before .before in
+    let p = b .before .before .before .before .before .before .before .pre in
+    (_, taking (p .0) (a .before .loop .inv) (a .loop-test .taken) _ (b .clear-slot .ensures) (p .1 .table))
 
 add-i : tie.Need-add-i Inv-loop μ-loop
-add-i c = omega (arith, c .before .before .before .before .before .before .before .before .before .before .before .before .before .loop-test .taken, c .before .before .before .before .before .before .before .before .before .before .before .before .before .before .before .before .before .before .before .before .before .before .before .before .pre .0 .small)
+add-i c = let a = c .before .before .before .before .before .before .before .before .before .before .before .before .before in omega (arith, a .loop-test .taken, a .before .before .before .before .before .before .before .before .before .before .before .pre .0 .small)
 
 cell-after-requires : tie.Need-cell-after-requires Inv-loop μ-loop
-cell-after-requires c κs = let I = c .before .before .before .before .before .before .before .before .before .before .before .before .before .before .loop .inv in (I .column, near-row (c .before .before .before .before .before .before .before .before .before .before .before .before .before .before .before .before .before .before .before .before .before .before .before .before .pre .0) (spot-of (I .index) (I .column) (c .before .before .before .before .before .before .before .before .before .before .before .before .before .loop-test .taken)))
+cell-after-requires c κs =
+    let a = c .before .before .before .before .before .before .before .before .before .before .before .before .before in
+    let I = a .before .loop .inv in
+    (I .column, near-row (a .before .before .before .before .before .before .before .before .before .before .before .pre .0) (spot-of (I .index) (I .column) (a .loop-test .taken)))
 
 loop-less : tie.Need-loop-less Inv-loop μ-loop
 loop-less c = omega (arith, c .before .before .before .before .before .before .before .before .before .before .before .before .before .before .loop-test .taken)
 
 loop-again : tie.Need-loop-again Inv-loop μ-loop
 loop-again c =
-    let I = c .before .before .before .before .before .before .before .before .before .before .before .before .before .before .before .loop .inv in
-    let a = c .before .before .before .before .before .before .before .before .before in
-    let k = a .take-pixel .kept .1 in
+    let b = c .before .before .before .before .before .before .before .before .before in
+    let a = b .before .before .before .before .before in
+    let I = a .before .loop .inv in
+    let k = b .take-pixel .kept .1 in
     record {
       index = c .cell-after .ensures .1 _ (I .index);
       column = c .cell-after .ensures .0;
-      within = omega (arith, c .before .before .before .before .before .before .before .before .before .before .before .before .before .before .loop-test .taken);
-      held = λ t₀ e r. rw add-one (a .take-pixel .ensures t₀ (taking (c .before .before .before .before .before .before .before .before .before .before .before .before .before .before .before .before .before .before .before .before .before .before .before .before .before .pre .0) I (c .before .before .before .before .before .before .before .before .before .before .before .before .before .before .loop-test .taken) t₀ e r));
+      within = omega (arith, a .loop-test .taken);
+      held = λ t₀ e r. rw add-one (b .take-pixel .ensures t₀ (taking (a .before .before .before .before .before .before .before .before .before .before .before .pre .0) I (a .loop-test .taken) t₀ e r));
       kept = (k .0 ∙ I .kept .0, k .1 .0 ∙ I .kept .1, k .1 .1 .0 ∙ I .kept .2, k .1 .1 .1 .0 ∙ I .kept .3);
     }
 
 returns : tie.Need-returns Inv-loop μ-loop
 returns c =
     let I = c .before .loop .inv in
-    held-all _ _ _ _ (omega (arith, I .within, c .loop-test .left)) (I .held _ (c .before .before .before .before .clear-slot .ensures) (c .before .before .before .before .before .before .before .before .before .before .before .pre .1 .table))
+    let a = c .before .before .before .before in
+    held-all _ _ _ _ (omega (arith, I .within, c .loop-test .left)) (I .held _ (a .clear-slot .ensures) (a .before .before .before .before .before .before .before .pre .1 .table))
 
 pub stage-1-spec : {M : Type 1} → statement M
 stage-1-spec =

@@ -14,34 +14,38 @@ left-label-requires c κs = let Q = c .before .before .before .before .before .b
 
 combine-then-place-requires : tie.Need-combine-then-place-requires
 combine-then-place-requires c κs =
-    let p = c .before .before .before .before .before .before .before .before .before .before .before .before .before .before .before .pre in
-    let Q = p .1 in (
-      _,
-      p .0,
-      take-meeting Q (c .before .before .before .before .before .before .left-label .ensures _ _ (Q .holding .rep .labelled) (sym (spot-column (Q .spot)))) (c .before .before .before .before .before .before .before .before .up-label .ensures _ (Q .holding .rep .labelled))
-          (sym (c .before .before .before .before .before .left-meets-up .ensures _ (Q .spot) (Q .given)) ∙ c .before .before .before .before .if1 .taken),
-    )
+    let a = c .before .before .before .before in
+    let p = a .before .before .before .before .before .before .before .before .before .before .before .pre in
+    let Q = p .1 in
+    let l = a .before .before .left-label .ensures _ _ (Q .holding .rep .labelled) (sym (spot-column (Q .spot))) in
+    let u = a .before .before .before .before .up-label .ensures _ (Q .holding .rep .labelled) in
+    (_, p .0, take-meeting Q l u (sym (a .before .left-meets-up .ensures _ (Q .spot) (Q .given)) ∙ a .if1 .taken))
 
 returns : tie.Need-returns
 returns c t₀ Q =
-    let a = c .before .before .before .before .before .before .before .before .before .before .before .before .before .before .before in
-    let l = a .left-label .ensures _ _ (Q .holding .rep .labelled) (sym (spot-column (Q .spot))) in
-    let u = a .before .before .up-label .ensures _ (Q .holding .rep .labelled) in
-    let e = sym (c .before .before .before .before .before .before .before .before .before .before .before .before .before .before .left-meets-up .ensures _ (Q .spot) (Q .given)) ∙ c .before .before .before .before .before .before .before .before .before .before .before .before .before .if1 .taken in
-    take-met Q l u e (c .before .before .before .before .before .before .before .before .combine-then-place .ensures _ t₀ (take-meeting Q l u e))
+    let d = c .before .before .before .before .before .before .before .before in
+    let a = d .before .before .before .before .before in
+    let l = a .before .before .left-label .ensures _ _ (Q .holding .rep .labelled) (sym (spot-column (Q .spot))) in
+    let u = a .before .before .before .before .up-label .ensures _ (Q .holding .rep .labelled) in
+    let e = sym (a .before .left-meets-up .ensures _ (Q .spot) (Q .given)) ∙ a .if1 .taken in
+    take-met Q l u e (d .combine-then-place .ensures _ t₀ (take-meeting Q l u e))
 
 place-requires : tie.Need-place-requires
 place-requires c κs =
-    let p = c .before .before .before .before .before .before .before .before .before .before .before .before .before .before .before .pre in
+    let a = c .before .before .before .before in
+    let p = a .before .before .before .before .before .before .before .before .before .before .before .pre in
     let Q = p .1 in
-    (_, p .0, take-placing Q (c .before .before .before .before .before .before .left-label .ensures _ _ (Q .holding .rep .labelled) (sym (spot-column (Q .spot)))) (c .before .before .before .before .before .before .before .before .up-label .ensures _ (Q .holding .rep .labelled)))
+    let l = a .before .before .left-label .ensures _ _ (Q .holding .rep .labelled) (sym (spot-column (Q .spot))) in
+    let u = a .before .before .before .before .up-label .ensures _ (Q .holding .rep .labelled) in
+    (_, p .0, take-placing Q l u)
 
 returns-2 : tie.Need-returns-2
 returns-2 c t₀ Q =
-    let a = c .before .before .before .before .before .before .before .before .before .before .before .before .before .before .before in
-    let l = a .left-label .ensures _ _ (Q .holding .rep .labelled) (sym (spot-column (Q .spot))) in
-    let u = a .before .before .up-label .ensures _ (Q .holding .rep .labelled) in
-    take-placed Q l u (sym (c .before .before .before .before .before .before .before .before .before .before .before .before .before .before .left-meets-up .ensures _ (Q .spot) (Q .given)) ∙ c .before .before .before .before .before .before .before .before .before .before .before .before .before .if1 .left) (c .before .before .before .before .before .before .before .before .place .ensures _ t₀ (take-placing Q l u))
+    let d = c .before .before .before .before .before .before .before .before in
+    let a = d .before .before .before .before .before in
+    let l = a .before .before .left-label .ensures _ _ (Q .holding .rep .labelled) (sym (spot-column (Q .spot))) in
+    let u = a .before .before .before .before .up-label .ensures _ (Q .holding .rep .labelled) in
+    take-placed Q l u (sym (a .before .left-meets-up .ensures _ (Q .spot) (Q .given)) ∙ a .if1 .left) (d .place .ensures _ t₀ (take-placing Q l u))
 
 pub take-pixel-spec : {M : Type 1} → statement M
 take-pixel-spec =
@@ -51,14 +55,14 @@ take-pixel-spec =
     left-label-requires
     (search needs)
     combine-then-place-requires
-    (search needs)
-    (search needs)
-    (search needs)
-    (search needs)
+    (λ c. c .before .before .before .before .before .before .before .before .combine-then-place .kept .1 .0)
+    (λ c. c .before .before .before .before .before .before .before .before .combine-then-place .kept .1 .1 .0)
+    (λ c. c .before .before .before .before .before .before .before .before .combine-then-place .kept .1 .1 .1 .0)
+    (λ c. c .before .before .before .before .before .before .before .before .combine-then-place .kept .1 .1 .1 .1 .0)
     returns
     place-requires
-    (search needs)
-    (search needs)
-    (search needs)
-    (search needs)
+    (λ c. c .before .before .before .before .before .before .before .before .place .kept .1 .0)
+    (λ c. c .before .before .before .before .before .before .before .before .place .kept .1 .1 .0)
+    (λ c. c .before .before .before .before .before .before .before .before .place .kept .1 .1 .1 .0)
+    (λ c. c .before .before .before .before .before .before .before .before .place .kept .1 .1 .1 .1 .0)
     returns-2)

@@ -1,0 +1,17 @@
+use mathlib.Core.Path.{_≡_, refl, sym, ap, _∙_}
+use lib.IntN.{ℤ}
+use borrow.Author.Needs.{needs}
+use mir.Syntax.{w32}
+use mir.Val.{toZ, ofZ}
+use mir.ValLaws.{toZ-ofZ}
+use Rattle.color_clusters.proofs.exports.color_clusters_run.Statement.{statement}
+use Rattle.color_clusters.proofs.exports.color_clusters_run.Tie as tie
+
+-- the settings that were handed on are those that came
+returns : tie.Need-returns
+returns c =
+    let s = c .before .before .before .before .before .before .before .before .before .before .before .before .before .before .before .before .before .before .before .before .before .before .before in
+    rw (toZ-ofZ w32 _ (s .fits .is-same-color-a), toZ-ofZ w32 _ (s .fits .is-same-color-b), toZ-ofZ w32 _ (s .fits .deepen-diff), c .before .before .before .before .before .before .before .before .before .before .before .before .before .before .before .before .action-of .ensures) at (c .before .before .before .before .before .before .before .before .before .before .run .ensures)
+
+pub color-clusters-run-spec : {M : Type 1} → statement M
+color-clusters-run-spec = tie.close (tie.spec (search needs) (search needs) (search needs) (search needs) (search needs) (search needs) (search needs) returns)

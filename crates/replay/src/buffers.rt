@@ -1,0 +1,114 @@
+// What the lent buffers hold before a call, and what they have to hold after it.
+use crate::reading;
+use color_clusters::Answer;
+use color_clusters::RunnerConfig;
+
+// The first n numbers of buffer, or all of it where it is shorter.
+pub fn cut(buffer: &mut [u32], n: usize) -> &mut [u32] {
+    let k = reading::least(n, buffer.len());
+    &mut buffer[0..k]
+}
+
+// One more, where it is to be counted.
+pub fn count(sum: u64, more: bool) -> u64 {
+    if more {
+        std::num::wrapping_add_u64(sum, 1)
+    } else {
+        sum
+    }
+}
+
+// What stands at a place of every buffer before a call: no number that a run leaves, and another one at each place.
+fn pattern(i: usize) -> u32 {
+    (i % 1000000) as u32 + 3000000000
+}
+
+// Puts the pattern into all of buffer.
+fn fill(buffer: &mut [u32]) {
+    let mut i = 0;
+    while i < buffer.len() {
+        buffer[i] = pattern(i);
+        i += 1;
+    }
+}
+
+// Puts the pattern into every buffer.
+fn fill_all(
+    labels: &mut [u32],
+    links: &mut [u32],
+    table: &mut [u32],
+    outputs: &mut [u32],
+    work: &mut [u32],
+) {
+    fill(labels);
+    fill(links);
+    fill(table);
+    fill(outputs);
+    fill(work);
+}
+
+// Runs in buffers that are filled with the pattern.
+pub fn run_filled(
+    o: RunnerConfig,
+    w: u32,
+    h: u32,
+    image: &[u8],
+    labels: &mut [u32],
+    links: &mut [u32],
+    table: &mut [u32],
+    outputs: &mut [u32],
+    work: &mut [u32],
+) -> Answer {
+    fill_all(labels, links, table, outputs, work);
+    color_clusters::run(o, w, h, image, labels, links, table, outputs, work)
+}
+
+// Whether buffer holds the pattern from a place on.
+pub fn is_untouched(buffer: &[u32], from: usize) -> bool {
+    let mut i = from;
+    while i < buffer.len() {
+        if buffer[i] != pattern(i) {
+            return false;
+        }
+        i += 1;
+    }
+    true
+}
+
+// Whether buffer holds zeros alone.
+pub fn is_zero(buffer: &[u32]) -> bool {
+    let mut i = 0;
+    while i < buffer.len() {
+        if buffer[i] != 0 {
+            return false;
+        }
+        i += 1;
+    }
+    true
+}
+
+// Whether what was compared so far is the same, and the place after what is recorded of it.
+pub struct Compared {
+    pub same: bool,
+    pub at: usize,
+}
+
+// Compares the first n numbers of buffer with the numbers recorded at c, and the rest of it with the pattern.
+pub fn compare(s: &[u8], c: Compared, buffer: &[u32], n: usize) -> Compared {
+    if buffer.len() < n {
+        return Compared {
+            same: false,
+            at: reading::past(s),
+        };
+    }
+    let mut at = c.at;
+    let mut same = c.same & is_untouched(buffer, n);
+    let mut i = 0;
+    while i < n {
+        let next = reading::number(s, at);
+        same = same & (buffer[i] == next.value);
+        at = next.at;
+        i += 1;
+    }
+    Compared { same, at }
+}

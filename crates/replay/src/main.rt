@@ -1,0 +1,53 @@
+// Replays the recorded answers of the Rust original, which come on standard input, and tries the refusals of `run`. Prints how many calls were
+// made and how many went wrong.
+mod buffers;
+mod cases;
+mod reading;
+mod refusals;
+
+// Writes two counts, each with the words after it.
+fn print_counts(first: u64, words: &[u8], second: u64, end: &[u8]) {
+    io::print_decimal(1, first);
+    io::write_all(1, words);
+    io::print_decimal(1, second);
+    io::write_all(1, end);
+}
+
+// Writes what came of the replay.
+fn print_replayed(r: cases::Replayed) {
+    print_counts(r.cases, b" recorded cases, ", r.skipped, b" skipped, ");
+    print_counts(r.differ, b" differ, ", r.left, b" bytes left over\n");
+}
+
+// The window holds more than the longest case; the buffers hold what the largest image asks for, and two numbers more.
+fn main() {
+    let mut window = [0u8; 131072];
+    let mut labels = [0u32; 2402];
+    let mut links = [0u32; 2402];
+    let mut table = [0u32; 50423];
+    let mut outputs = [0u32; 4802];
+    let mut work = [0u32; 19210];
+    let replayed = cases::replay(
+        &mut window,
+        &mut labels,
+        &mut links,
+        &mut table,
+        &mut outputs,
+        &mut work,
+    );
+    print_replayed(replayed);
+    let tried = refusals::all(
+        &window,
+        &mut labels,
+        &mut links,
+        &mut table,
+        &mut outputs,
+        &mut work,
+    );
+    print_counts(
+        tried.calls,
+        b" calls at the edges of the refusals, ",
+        tried.wrong,
+        b" wrong\n",
+    );
+}

@@ -1,0 +1,221 @@
+// The refusals of `run` at their edges: the number, and that a refused call changes nothing.
+use crate::buffers::count;
+use crate::buffers::cut;
+use crate::buffers::is_untouched;
+use crate::buffers::run_filled;
+use crate::reading::part;
+use color::Color;
+use color_clusters::Answer;
+use color_clusters::KeyingAction;
+use color_clusters::RunnerConfig;
+
+// A call: the shift, the size, the lengths that are lent, and the number that it has to answer.
+struct Edge {
+    shift: i32,
+    w: u32,
+    h: u32,
+    image: usize,
+    labels: usize,
+    links: usize,
+    table: usize,
+    outputs: usize,
+    work: usize,
+    number: u32,
+}
+
+// 3 × 2 pixels with these lengths; what they ask for is 24, 6, 6, 147, 12 and 56.
+fn lent(
+    image: usize,
+    labels: usize,
+    links: usize,
+    table: usize,
+    outputs: usize,
+    work: usize,
+    number: u32,
+) -> Edge {
+    Edge {
+        shift: 4,
+        w: 3,
+        h: 2,
+        image,
+        labels,
+        links,
+        table,
+        outputs,
+        work,
+        number,
+    }
+}
+
+// 3 × 2 pixels, lent exactly what they ask for.
+fn shifted(shift: i32, number: u32) -> Edge {
+    let mut e = lent(24, 6, 6, 147, 12, 56, number);
+    e.shift = shift;
+    e
+}
+
+// w × h pixels, lent what 3 × 2 ask for.
+fn sized(w: u32, h: u32, number: u32) -> Edge {
+    let mut e = lent(24, 6, 6, 147, 12, 56, number);
+    e.w = w;
+    e.h = h;
+    e
+}
+
+// Nothing lent.
+fn empty(shift: i32, w: u32, h: u32, number: u32) -> Edge {
+    let mut e = lent(0, 0, 0, 0, 0, 0, number);
+    e.shift = shift;
+    e.w = w;
+    e.h = h;
+    e
+}
+
+// How many calls `edge_at` has.
+const EDGES: u64 = 31;
+
+// Each number where it first appears, the last call before it that is accepted, and several faults at once.
+fn edge_at(k: u64) -> Edge {
+    match k {
+        0 => shifted(4, 0),
+        1 => shifted(0, 0),
+        2 => shifted(7, 0),
+        3 => shifted(8, 1),
+        4 => shifted(-1, 1),
+        5 => shifted(2147483647, 1),
+        6 => shifted(-2147483648, 1),
+        7 => sized(0, 2, 2),
+        8 => sized(3, 0, 2),
+        9 => sized(0, 0, 2),
+        10 => sized(65001, 1, 3),
+        11 => sized(1, 65001, 3),
+        12 => sized(65536, 65536, 3),
+        13 => sized(4294967295, 4294967295, 3),
+        14 => sized(65000, 1, 4),
+        15 => lent(23, 6, 6, 147, 12, 56, 4),
+        16 => lent(25, 6, 6, 147, 12, 56, 4),
+        17 => lent(0, 6, 6, 147, 12, 56, 4),
+        18 => lent(24, 5, 6, 147, 12, 56, 5),
+        19 => lent(24, 6, 5, 147, 12, 56, 5),
+        20 => lent(24, 6, 6, 146, 12, 56, 5),
+        21 => lent(24, 6, 6, 147, 11, 56, 5),
+        22 => lent(24, 6, 6, 147, 12, 55, 5),
+        23 => lent(24, 7, 8, 149, 14, 58, 0),
+        24 => lent(23, 5, 6, 147, 12, 56, 4),
+        25 => lent(24, 5, 5, 146, 11, 55, 5),
+        26 => empty(8, 0, 1, 1),
+        27 => empty(-1, 65001, 1, 1),
+        28 => empty(4, 0, 65001, 2),
+        29 => empty(4, 65001, 1, 3),
+        _ => empty(4, 65000, 1, 4),
+    }
+}
+
+// Settings with this shift.
+fn settings(shift: i32) -> RunnerConfig {
+    let key_color = Color {
+        r: 0,
+        g: 0,
+        b: 0,
+        a: 0,
+    };
+    let keying_action = KeyingAction::Keep;
+    RunnerConfig {
+        is_same_color_a: shift,
+        is_same_color_b: 1,
+        hierarchical: 4294967295,
+        good_min_area: 16,
+        good_max_area: 65536,
+        hollow_neighbours: 1,
+        deepen_diff: 64,
+        key_color,
+        keying_action,
+    }
+}
+
+// Whether an answer has this number and, where it is a refusal, no counts, and every buffer is as it was filled.
+fn is_right(
+    number: u32,
+    a: Answer,
+    labels: &[u32],
+    links: &[u32],
+    table: &[u32],
+    outputs: &[u32],
+    work: &[u32],
+) -> bool {
+    if number == 0 {
+        return a.number == 0;
+    }
+    (a.number == number)
+        & (a.n == 0)
+        & (a.m == 0)
+        & is_untouched(labels, 0)
+        & is_untouched(links, 0)
+        & is_untouched(table, 0)
+        & is_untouched(outputs, 0)
+        & is_untouched(work, 0)
+}
+
+// Makes a call, and answers whether it went right.
+fn call(
+    e: Edge,
+    image: &[u8],
+    labels: &mut [u32],
+    links: &mut [u32],
+    table: &mut [u32],
+    outputs: &mut [u32],
+    work: &mut [u32],
+) -> bool {
+    let o = settings(e.shift);
+    let a = run_filled(o, e.w, e.h, image, labels, links, table, outputs, work);
+    is_right(e.number, a, labels, links, table, outputs, work)
+}
+
+// Cuts the buffers to the lengths of a call, and makes it.
+fn try_edge(
+    e: Edge,
+    bytes: &[u8],
+    labels: &mut [u32],
+    links: &mut [u32],
+    table: &mut [u32],
+    outputs: &mut [u32],
+    work: &mut [u32],
+) -> bool {
+    call(
+        e,
+        part(bytes, 0, e.image),
+        cut(labels, e.labels),
+        cut(links, e.links),
+        cut(table, e.table),
+        cut(outputs, e.outputs),
+        cut(work, e.work),
+    )
+}
+
+// How many calls were made, and how many of them went wrong.
+pub struct Tried {
+    pub calls: u64,
+    pub wrong: u64,
+}
+
+// Makes every call.
+pub fn all(
+    bytes: &[u8],
+    labels: &mut [u32],
+    links: &mut [u32],
+    table: &mut [u32],
+    outputs: &mut [u32],
+    work: &mut [u32],
+) -> Tried {
+    let mut wrong = 0;
+    let mut k = 0;
+    while k < EDGES {
+        let right = try_edge(edge_at(k), bytes, labels, links, table, outputs, work);
+        wrong = count(wrong, !right);
+        k += 1;
+    }
+    Tried {
+        calls: EDGES,
+        wrong,
+    }
+}
