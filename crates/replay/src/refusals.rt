@@ -24,7 +24,7 @@ struct Edge {
 }
 
 // 3 × 2 pixels with these lengths; what they ask for is 24, 6, 6, 147, 12 and 56.
-fn lent(
+fn lengths(
     image: usize,
     labels: usize,
     links: usize,
@@ -49,14 +49,14 @@ fn lent(
 
 // 3 × 2 pixels, lent exactly what they ask for.
 fn shifted(shift: i32, number: u32) -> Edge {
-    let mut e = lent(24, 6, 6, 147, 12, 56, number);
+    let mut e = lengths(24, 6, 6, 147, 12, 56, number);
     e.shift = shift;
     e
 }
 
 // w × h pixels, lent what 3 × 2 ask for.
 fn sized(w: u32, h: u32, number: u32) -> Edge {
-    let mut e = lent(24, 6, 6, 147, 12, 56, number);
+    let mut e = lengths(24, 6, 6, 147, 12, 56, number);
     e.w = w;
     e.h = h;
     e
@@ -64,7 +64,7 @@ fn sized(w: u32, h: u32, number: u32) -> Edge {
 
 // Nothing lent.
 fn empty(shift: i32, w: u32, h: u32, number: u32) -> Edge {
-    let mut e = lent(0, 0, 0, 0, 0, 0, number);
+    let mut e = lengths(0, 0, 0, 0, 0, 0, number);
     e.shift = shift;
     e.w = w;
     e.h = h;
@@ -92,17 +92,17 @@ fn edge_at(k: u64) -> Edge {
         12 => sized(65536, 65536, 3),
         13 => sized(4294967295, 4294967295, 3),
         14 => sized(65000, 1, 4),
-        15 => lent(23, 6, 6, 147, 12, 56, 4),
-        16 => lent(25, 6, 6, 147, 12, 56, 4),
-        17 => lent(0, 6, 6, 147, 12, 56, 4),
-        18 => lent(24, 5, 6, 147, 12, 56, 5),
-        19 => lent(24, 6, 5, 147, 12, 56, 5),
-        20 => lent(24, 6, 6, 146, 12, 56, 5),
-        21 => lent(24, 6, 6, 147, 11, 56, 5),
-        22 => lent(24, 6, 6, 147, 12, 55, 5),
-        23 => lent(24, 7, 8, 149, 14, 58, 0),
-        24 => lent(23, 5, 6, 147, 12, 56, 4),
-        25 => lent(24, 5, 5, 146, 11, 55, 5),
+        15 => lengths(23, 6, 6, 147, 12, 56, 4),
+        16 => lengths(25, 6, 6, 147, 12, 56, 4),
+        17 => lengths(0, 6, 6, 147, 12, 56, 4),
+        18 => lengths(24, 5, 6, 147, 12, 56, 5),
+        19 => lengths(24, 6, 5, 147, 12, 56, 5),
+        20 => lengths(24, 6, 6, 146, 12, 56, 5),
+        21 => lengths(24, 6, 6, 147, 11, 56, 5),
+        22 => lengths(24, 6, 6, 147, 12, 55, 5),
+        23 => lengths(24, 7, 8, 149, 14, 58, 0),
+        24 => lengths(23, 5, 6, 147, 12, 56, 4),
+        25 => lengths(24, 5, 5, 146, 11, 55, 5),
         26 => empty(8, 0, 1, 1),
         27 => empty(-1, 65001, 1, 1),
         28 => empty(4, 0, 65001, 2),
