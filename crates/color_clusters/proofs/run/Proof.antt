@@ -11,7 +11,7 @@ use Rattle.color_clusters.proofs.run.Tie as tie
 
 returns : tie.Need-returns
 unfolding runCall runNumber
-returns c = rw (← c .before .run-answer .ensures, ne-eqb _ _ (c .if1 .taken))
+returns c = rw (← c .before .run-answer .ensures, ne-eqb _ 0 (c .if1 .taken))
 
 -- the checks are passed
 passed : (c : tie.Else1)
