@@ -1,5 +1,5 @@
 -- Laws on numbers that the proofs cite. Assume nothing.
-use Prim.Native.Nat.{ℕ, _+_, _*_, _/_, _^_, _<_}
+use Prim.Native.Nat.{ℕ, _+_, _*_, _/_, _^_, _≤_, _<_}
 use native.Mathlib.Nat.{lt-of-lt-of-le, pow-le-pow-right, div-eq-of-lt, mul-le-mul-right}
 use native.Mathlib.Omega.{arith}
 use mathlib.Core.Path.{_≡_, refl}
@@ -8,7 +8,10 @@ use lib.Signed.{leZ}
 use mir.Syntax.{w8, w32, w64}
 use mir.Val.{Fits, SFits, toZ, ofZ}
 use mir.ValLaws.{toZ-pos, toZ-ofZ}
-use Rattle.rules.specs.Color.{atMost}
+use borrow.Author.Tests.{ltb-false}
+use Rattle.rules.specs.Color.{ColorSum, _⊕_, atMost}
+use Rattle.rules.specs.Refusals.{largestTotal, sumAnswer}
+use Rattle.rules.proofs.Accepted.{passed, neither}
 
 -- the signed comparison of a number below 2^31 with a setting is the rules'
 pub at-most : {d : ℕ} {z : ℤ} → d < 2 ^ 31 → SFits w32 z → leZ (toZ w32 d) (toZ w32 (ofZ w32 z)) ≡ atMost d z
@@ -29,3 +32,14 @@ place-fits {w} {x} {y} f g h = omega (arith, mul-le-mul-right {m = w} {n = 42949
 -- and so does where its row begins
 pub row-fits : {w y : ℕ} → Fits w32 w → Fits w32 y → Fits w64 (w * y)
 row-fits f g = omega (arith, place-fits f f g)
+
+-- the totals of an addition that is not refused
+pub totals-fit : (x y : ColorSum) → sumAnswer x y ≡ 0
+    → (x .r + y .r ≤ largestTotal) × (x .g + y .g ≤ largestTotal) × (x .b + y .b ≤ largestTotal) × (x .a + y .a ≤ largestTotal) × (x .count + y .count ≤ largestTotal)
+unfolding sumAnswer _⊕_
+totals-fit x y h =
+    let a = neither _ _ (passed 6 _ 0 h .0) in
+    let b = neither _ _ (a .0) in
+    let g = neither _ _ (b .0) in
+    let r = neither _ _ (g .0) in
+    (ltb-false _ _ (r .0), ltb-false _ _ (r .1), ltb-false _ _ (g .1), ltb-false _ _ (b .1), ltb-false _ _ (a .1))

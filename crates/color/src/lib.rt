@@ -1,11 +1,13 @@
 // Colours, sums of colours, and what is asked of them, after the Rust's `color.rs` and `runner.rs`. No call asks anything of its caller: where the
-// rules have no colour it answers None.
+// rules have no colour it answers None, and where an addition would pass 4,294,967,295 it answers 7 and changes nothing.
 ghost use mathlib.Core.Path.{_≡_};
-ghost use Prim.Native.Nat.{_*_, _/_, _^_, _≤_, _<_};
-ghost use lib.Dec.{leb};
+ghost use Prim.Native.Nat.{_+_, _*_, _/_, _^_, _≤_, _<_};
+ghost use lib.Dec.{leb, ltb};
 ghost use lib.IntN.{pos};
 ghost use Rattle.rules.specs.Base.{apart};
-ghost use Rattle.rules.specs.Color.{averageOrNone, hasAverage, atMost, colorSame, isSame, colorDiff, pixelAt, equalColor};
+ghost use Rattle.rules.specs.Color.{zeroSum, one, _⊕_, averageOrNone, hasAverage, atMost, colorSame, isSame, colorDiff, pixelAt, equalColor};
+ghost use Rattle.rules.specs.Refusals.{largestTotal, sumAnswer};
+ghost use Rattle.rules.specs.Calls.{sumCall};
 ghost use Rattle.color.specs.Colors.{colorOf, sumOf, optionOf};
 
 // Red, green, blue and alpha.
@@ -120,20 +122,134 @@ fn floor(channel: u32, counter: u32) -> u8
     (channel / counter) as u8
 }
 
-// Whether a sum has an average: it counts something, and no channel exceeds 255 × counter.
-fn has_average(s: ColorSum) -> bool
-    ensures { λ r. ⌜ r ≡ hasAverage (sumOf s) ⌝ }
+// The sum of no colour.
+fn no_sum() -> ColorSum
+    ensures { λ r. ⌜ sumOf r ≡ zeroSum ⌝ }
 {
-    let n = s.counter;
-    (n != 0) & within(s.r, n) & within(s.g, n) & within(s.b, n) & within(s.a, n)
+    ColorSum {
+        r: 0,
+        g: 0,
+        b: 0,
+        a: 0,
+        counter: 0,
+    }
+}
+
+// Whether two numbers added pass 4,294,967,295.
+fn passes(x: u32, y: u32) -> bool
+    ensures { λ r. ⌜ r ≡ ltb largestTotal (x + y) ⌝ }
+{
+    4294967295 < x as u64 + y as u64
+}
+
+// 7 where a number of two sums added passes 4,294,967,295, else 0.
+fn sum_answer(x: ColorSum, y: ColorSum) -> u32
+    ensures { λ r. ⌜ r ≡ sumAnswer (sumOf x) (sumOf y) ⌝ }
+{
+    if passes(x.r, y.r)
+        | passes(x.g, y.g)
+        | passes(x.b, y.b)
+        | passes(x.a, y.a)
+        | passes(x.counter, y.counter)
+    {
+        7
+    } else {
+        0
+    }
+}
+
+// Two sums added, where that is not refused.
+fn plus(x: ColorSum, y: ColorSum) -> ColorSum
+    requires { ⌜ sumAnswer (sumOf x) (sumOf y) ≡ 0 ⌝ }
+    ensures { λ r. ⌜ sumOf r ≡ sumOf x ⊕ sumOf y ⌝ }
+{
+    ColorSum {
+        r: x.r + y.r,
+        g: x.g + y.g,
+        b: x.b + y.b,
+        a: x.a + y.a,
+        counter: x.counter + y.counter,
+    }
+}
+
+// The answer of an addition, and the sum after it.
+struct Outcome {
+    answer: u32,
+    sum: ColorSum,
+}
+
+// The sum y added to x.
+fn sum_added(x: ColorSum, y: ColorSum) -> Outcome
+    ensures { λ r. ⌜ (r .answer ≡ sumAnswer (sumOf x) (sumOf y)) × (sumOf (r .sum) ≡ sumCall (sumOf x) (sumOf y)) ⌝ }
+{
+    let answer = sum_answer(x, y);
+    if answer != 0 {
+        return Outcome {
+            answer: answer,
+            sum: x,
+        };
+    }
+    Outcome {
+        answer: answer,
+        sum: plus(x, y),
+    }
+}
+
+// The colour c added to x.
+fn color_added(x: ColorSum, c: Color) -> Outcome
+    ensures { λ r. ⌜ (r .answer ≡ sumAnswer (sumOf x) (one (colorOf c))) × (sumOf (r .sum) ≡ sumCall (sumOf x) (one (colorOf c))) ⌝ }
+{
+    let y = ColorSum {
+        r: c.r as u32,
+        g: c.g as u32,
+        b: c.b as u32,
+        a: c.a as u32,
+        counter: 1,
+    };
+    sum_added(x, y)
 }
 
 impl ColorSum {
+    // Adds a colour. The answer is 0, or 7 where a number of the sum would pass 4,294,967,295; then nothing changes.
+    pub fn add(&mut self, c: Color) -> u32
+        ensures { λ r. ⌜ (r ≡ sumAnswer (sumOf (now (self .entry))) (one (colorOf c)))
+            × (sumOf (now (self .exit)) ≡ sumCall (sumOf (now (self .entry))) (one (colorOf c))) ⌝ }
+    {
+        let t = color_added(*self, c);
+        *self = t.sum;
+        t.answer
+    }
+
+    // Adds another sum, with the same answers.
+    pub fn merge(&mut self, other: ColorSum) -> u32
+        ensures { λ r. ⌜ (r ≡ sumAnswer (sumOf (now (self .entry))) (sumOf other))
+            × (sumOf (now (self .exit)) ≡ sumCall (sumOf (now (self .entry))) (sumOf other)) ⌝ }
+    {
+        let t = sum_added(*self, other);
+        *self = t.sum;
+        t.answer
+    }
+
+    // All five numbers become 0.
+    pub fn clear(&mut self)
+        ensures { λ _. ⌜ sumOf (now (self .exit)) ≡ zeroSum ⌝ }
+    {
+        *self = no_sum();
+    }
+
+    // Whether the sum has an average: it counts something, and no channel exceeds 255 × counter.
+    pub fn has_average(self) -> bool
+        ensures { λ r. ⌜ r ≡ hasAverage (sumOf self) ⌝ }
+    {
+        let n = self.counter;
+        (n != 0) & within(self.r, n) & within(self.g, n) & within(self.b, n) & within(self.a, n)
+    }
+
     // The average, each channel rounded down; None where the sum counts nothing or a channel exceeds 255 × counter.
     pub fn average(self) -> ColorOrNone
         ensures { λ r. ⌜ optionOf r ≡ averageOrNone (sumOf self) ⌝ }
     {
-        if has_average(self) {
+        if self.has_average() {
             let n = self.counter;
             ColorOrNone::Some(Color {
                 r: floor(self.r, n),

@@ -31,16 +31,3 @@ shift-outside {z} f = rw (toZ-ofZ w32 z f) (by z)
     by : (z : ℤ) → not (leZ (pos 0) z && leZ z (pos 7)) ≡ badShift z
     by (pos n) = above n
     by (negsuc n) = refl
-
--- where the size passes the rest is answered, else what the size answers
-pub sized : (w h : ℕ) (later : List Check) → firstFailed (sizeChecks w h ++ later) ≡ (if eqb (firstFailed (sizeChecks w h)) 0 then firstFailed later else firstFailed (sizeChecks w h))
-sized w h later = by (eqb w 0 || eqb h 0) (ltb limit (w * h))
-  where
-    by : (a b : Bool) → (if a then 2 else (if b then 3 else firstFailed later)) ≡ (if eqb (if a then 2 else (if b then 3 else 0)) 0 then firstFailed later else (if a then 2 else (if b then 3 else 0)))
-    by true b = refl
-    by false true = refl
-    by false false = refl
-
--- an image whose size passes has at most so many pixels
-pub sized-small : (w h : ℕ) → firstFailed (sizeChecks w h) ≡ 0 → w * h ≤ limit
-sized-small w h e = not-below limit (w * h) (passed 2 (ltb limit (w * h)) 0 (passed 1 (eqb w 0 || eqb h 0) _ e .1) .0)

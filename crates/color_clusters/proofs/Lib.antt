@@ -1,5 +1,4 @@
 -- Laws that belong to no one function.
-pub mod Walks
 pub mod Places
 pub mod Slots
 pub mod Tables

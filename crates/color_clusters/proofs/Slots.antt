@@ -13,17 +13,6 @@ use Rattle.color_clusters.specs.declared.slot.Head.{Head}
 use Rattle.color_clusters.specs.Types.{rectOf}
 use Rattle.color_clusters.specs.Slots.{headOf}
 
--- the index of number j of slot k fits, and so does its offset in bytes
-pub slot-fits : {k : ℕ} → Fits w32 k → (j : ℕ) → T (ltb j 21) → Fits w64 (21 * k + j)
-slot-fits f j h = omega (arith, lit< {m = j} {n = 21} h)
-
-pub slot-offset : {k : ℕ} → Fits w32 k → (j : ℕ) → T (ltb j 21) → Fits w64 ((21 * k + j) * 4)
-slot-offset f j h = omega (arith, lit< {m = j} {n = 21} h)
-
--- it is in the table
-pub slot-in : (k : ℕ) {n : ℕ} → 21 * k + 21 ≤ n → (j : ℕ) → T (ltb j 21) → 21 * k + j < n
-slot-in k l j h = omega (arith, lit< {m = j} {n = 21} h)
-
 -- a head is a cluster's by its four parts
 pub head-is : {h : Head} (k : Cluster) → h .first ≡ firstOf (k .pixels) → h .count ≡ length (k .pixels) → rectOf (h .rect) ≡ k .rect → sumOf (h .sum) ≡ k .sum → h ≡ headOf k
 head-is k f n e s = λ i. record {

@@ -4,8 +4,9 @@ ghost use mathlib.Core.Bool.{false};
 ghost use Prim.Native.Nat.{_+_, _*_, _≤_};
 ghost use lib.IntN.{pos};
 ghost use lib.ListN.{length};
-ghost use Rattle.rules.specs.Refusals.{badShift};
-ghost use Rattle.rules.specs.Run.{stage1, stage2};
+ghost use Rattle.rules.specs.Refusals.{badShift, runAndPaintAnswer};
+ghost use Rattle.rules.specs.Run.{run, stage1, stage2};
+ghost use Rattle.rules.specs.Picture.{paint};
 ghost use Rattle.rules.specs.Calls as rules;
 ghost use Rattle.rules.proofs.Accepted.{Accepted};
 ghost use Rattle.color_clusters.specs.Types.{configOf};
@@ -127,5 +128,30 @@ pub(crate) fn accepted(
         number: 0,
         n: t.n,
         m,
+    }
+}
+
+// The same, and then the picture of the run.
+pub(crate) fn accepted_and_painted(
+    o: RunnerConfig,
+    w: u32,
+    h: u32,
+    image: &[u8],
+    labels: &mut [u32],
+    links: &mut [u32],
+    table: &mut [u32],
+    outputs: &mut [u32],
+    work: &mut [u32],
+    picture: &mut [u8],
+) -> Answer
+    requires { ⌜ runAndPaintAnswer w h (configOf o) (length (now image)) (length (now labels)) (length (now links)) (length (now table)) (length (now outputs)) (length (now work)) (length (now picture)) ≡ 0 ⌝ }
+    ensures { λ r. ⌜ (record { number = r .number; n = r .n; m = r .m; buffers = record { labels = now (labels .exit); links = now (links .exit); table = now (table .exit); outputs = now (outputs .exit); work = now (work .exit) } } ≡ rules.accepted (configOf o) w h (now (image .entry)) (record { labels = now (labels .entry); links = now (links .entry); table = now (table .entry); outputs = now (outputs .entry); work = now (work .entry) })) × (now (picture .exit) ≡ paint (w * h) (run (configOf o) w h (now (image .entry)))) ⌝ }
+{
+    let a = accepted(o, w, h, image, labels, links, table, outputs, work);
+    let number = container::to_color_image(w, h, links, table, outputs, picture, a.n, a.m);
+    Answer {
+        number,
+        n: a.n,
+        m: a.m,
     }
 }

@@ -1,39 +1,17 @@
-// The checks of the public calls, in the order of their numbers.
+// The checks of a run, in the order of their numbers.
 ghost use mathlib.Core.Path.{_≡_};
 ghost use mathlib.Core.Bool.{_||_};
 ghost use Prim.Native.Nat.{_+_, _*_, _≤_};
 ghost use lib.Dec.{ltb};
-ghost use Rattle.rules.specs.Refusals.{badShift, firstFailed, sizeChecks, runAnswer, tableLength, outputsLength, workLength};
+ghost use Rattle.rules.specs.Refusals.{badShift, runAnswer, runAndPaintAnswer, tableLength, outputsLength, workLength};
 ghost use Rattle.color_clusters.specs.Types.{configOf};
 use crate::RunnerConfig;
-
-// The largest image, in pixels.
-const LIMIT: u64 = 65000;
 
 // Whether the shift is outside 0 to 7.
 fn bad_shift(shift: i32) -> bool
     ensures { λ r. ⌜ r ≡ badShift shift ⌝ }
 {
     !((0 <= shift) & (shift <= 7))
-}
-
-fn product(w: u32, h: u32) -> u64
-    ensures { λ r. ⌜ r ≡ w * h ⌝ }
-{
-    w as u64 * h as u64
-}
-
-// Checks 2 and 3: the size of the image.
-pub(crate) fn size_answer(w: u32, h: u32) -> u32
-    ensures { λ r. ⌜ r ≡ firstFailed (sizeChecks w h) ⌝ }
-{
-    if (w == 0) | (h == 0) {
-        return 2;
-    }
-    if LIMIT < product(w, h) {
-        return 3;
-    }
-    0
 }
 
 // Check 5 of `run`: whether a buffer is too short.
@@ -72,16 +50,41 @@ pub(crate) fn run_answer(
     if bad_shift(o.is_same_color_a) {
         return 1;
     }
-    let answer = size_answer(w, h);
+    let answer = container::size_answer(w, h);
     if answer != 0 {
         return answer;
     }
-    let size = product(w, h) as usize;
+    let size = container::area(w, h) as usize;
     if image != 4 * size {
         return 4;
     }
     if short(size, labels, links, table, outputs, work) {
         return 5;
+    }
+    0
+}
+
+// The checks of `run`, and then of the picture, which is a length too.
+pub(crate) fn run_and_paint_answer(
+    o: RunnerConfig,
+    w: u32,
+    h: u32,
+    image: usize,
+    labels: usize,
+    links: usize,
+    table: usize,
+    outputs: usize,
+    work: usize,
+    picture: usize,
+) -> u32
+    ensures { λ r. ⌜ r ≡ runAndPaintAnswer w h (configOf o) image labels links table outputs work picture ⌝ }
+{
+    let answer = run_answer(o, w, h, image, labels, links, table, outputs, work);
+    if answer != 0 {
+        return answer;
+    }
+    if picture != 4 * container::area(w, h) as usize {
+        return 6;
     }
     0
 }

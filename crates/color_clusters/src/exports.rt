@@ -1,7 +1,10 @@
 // The calls for C and Rust: include/color_clusters.h declares them. A slice is a pointer and then a length.
 ghost use mathlib.Core.Path.{_≡_};
-ghost use Rattle.rules.specs.Calls.{runCall};
-ghost use Rattle.color_clusters.specs.Types.{actionOf};
+ghost use lib.ListN.{length};
+ghost use Rattle.rules.specs.Refusals.{rowAnswer};
+ghost use Rattle.rules.specs.Calls.{runCall, paintCall, runAndPaintCall, storeCall};
+ghost use Rattle.rules.specs.Demand3.{Demand3Left};
+ghost use Rattle.color_clusters.specs.Types.{actionOf, configOf};
 ghost use Rattle.color_clusters.specs.Exports.{actionAt, settings};
 use crate::Answer;
 use crate::KeyingAction;
@@ -16,6 +19,43 @@ fn action_of(action: u32) -> KeyingAction
         return KeyingAction::Keep;
     }
     KeyingAction::Discard
+}
+
+// The settings, put together.
+fn config(
+    is_same_color_a: i32,
+    is_same_color_b: i32,
+    hierarchical: u32,
+    good_min_area: u32,
+    good_max_area: u32,
+    hollow_neighbours: u32,
+    deepen_diff: i32,
+    key_r: u8,
+    key_g: u8,
+    key_b: u8,
+    key_a: u8,
+    action: u32,
+) -> RunnerConfig
+    ensures { λ r. ⌜ configOf r ≡ settings «is_same_color_a» «is_same_color_b» hierarchical «good_min_area» «good_max_area» «hollow_neighbours» «deepen_diff» «key_r» «key_g» «key_b» «key_a» action ⌝ }
+{
+    let key_color = Color {
+        r: key_r,
+        g: key_g,
+        b: key_b,
+        a: key_a,
+    };
+    let keying_action = action_of(action);
+    RunnerConfig {
+        is_same_color_a,
+        is_same_color_b,
+        hierarchical,
+        good_min_area,
+        good_max_area,
+        hollow_neighbours,
+        deepen_diff,
+        key_color,
+        keying_action,
+    }
 }
 
 // `run`, with the settings one by one.
@@ -44,14 +84,7 @@ pub extern "C" fn color_clusters_run(
 ) -> Answer
     ensures { λ r. ⌜ record { number = r .number; n = r .n; m = r .m; buffers = record { labels = now (labels .exit); links = now (links .exit); table = now (table .exit); outputs = now (outputs .exit); work = now (work .exit) } } ≡ runCall (settings «is_same_color_a» «is_same_color_b» hierarchical «good_min_area» «good_max_area» «hollow_neighbours» «deepen_diff» «key_r» «key_g» «key_b» «key_a» action) w h (now (image .entry)) (record { labels = now (labels .entry); links = now (links .entry); table = now (table .entry); outputs = now (outputs .entry); work = now (work .entry) }) ⌝ }
 {
-    let key_color = Color {
-        r: key_r,
-        g: key_g,
-        b: key_b,
-        a: key_a,
-    };
-    let keying_action = action_of(action);
-    let o = RunnerConfig {
+    let o = config(
         is_same_color_a,
         is_same_color_b,
         hierarchical,
@@ -59,8 +92,99 @@ pub extern "C" fn color_clusters_run(
         good_max_area,
         hollow_neighbours,
         deepen_diff,
-        key_color,
-        keying_action,
-    };
+        key_r,
+        key_g,
+        key_b,
+        key_a,
+        action,
+    );
     crate::run(o, w, h, image, labels, links, table, outputs, work)
+}
+
+// `run_and_paint`, with the settings one by one.
+#[no_mangle]
+pub extern "C" fn color_clusters_run_and_paint(
+    is_same_color_a: i32,
+    is_same_color_b: i32,
+    hierarchical: u32,
+    good_min_area: u32,
+    good_max_area: u32,
+    hollow_neighbours: u32,
+    deepen_diff: i32,
+    key_r: u8,
+    key_g: u8,
+    key_b: u8,
+    key_a: u8,
+    action: u32,
+    w: u32,
+    h: u32,
+    image: &[u8],
+    labels: &mut [u32],
+    links: &mut [u32],
+    table: &mut [u32],
+    outputs: &mut [u32],
+    work: &mut [u32],
+    picture: &mut [u8],
+) -> Answer
+    ensures { λ r. ⌜ record { ran = record { number = r .number; n = r .n; m = r .m; buffers = record { labels = now (labels .exit); links = now (links .exit); table = now (table .exit); outputs = now (outputs .exit); work = now (work .exit) } }; picture = now (picture .exit) } ≡ runAndPaintCall (settings «is_same_color_a» «is_same_color_b» hierarchical «good_min_area» «good_max_area» «hollow_neighbours» «deepen_diff» «key_r» «key_g» «key_b» «key_a» action) w h (now (image .entry)) (record { labels = now (labels .entry); links = now (links .entry); table = now (table .entry); outputs = now (outputs .entry); work = now (work .entry) }) (now (picture .entry)) ⌝ }
+    ensures { λ r. ⌜ (r .number ≡ 0 → Demand3Left (settings «is_same_color_a» «is_same_color_b» hierarchical «good_min_area» «good_max_area» «hollow_neighbours» «deepen_diff» «key_r» «key_g» «key_b» «key_a» action) w h (now (image .entry)) (r .n) (now (labels .exit)) (now (links .exit)) (now (table .exit)) (now (picture .exit))) ⌝ }
+{
+    let o = config(
+        is_same_color_a,
+        is_same_color_b,
+        hierarchical,
+        good_min_area,
+        good_max_area,
+        hollow_neighbours,
+        deepen_diff,
+        key_r,
+        key_g,
+        key_b,
+        key_a,
+        action,
+    );
+    crate::run_and_paint(o, w, h, image, labels, links, table, outputs, work, picture)
+}
+
+// `container::to_color_image`.
+#[no_mangle]
+pub extern "C" fn color_clusters_paint(
+    w: u32,
+    h: u32,
+    links: &[u32],
+    table: &[u32],
+    outputs: &[u32],
+    picture: &mut [u8],
+    n: u32,
+    m: u32,
+) -> u32
+    ensures { λ r. ⌜ record { answer = r; picture = now (picture .exit) } ≡ paintCall w h (now (links .entry)) (now (table .entry)) (now (outputs .entry)) (now (picture .entry)) n m ⌝ }
+{
+    container::to_color_image(w, h, links, table, outputs, picture, n, m)
+}
+
+// `container::row_check`.
+#[no_mangle]
+pub extern "C" fn color_clusters_row_check(w: u32, h: u32, picture: &[u8], y: u32) -> u32
+    ensures { λ r. ⌜ r ≡ rowAnswer w h (length (now (picture .entry))) y ⌝ }
+{
+    container::row_check(w, h, picture, y)
+}
+
+// `container::store`.
+#[no_mangle]
+pub extern "C" fn color_clusters_store(
+    w: u32,
+    h: u32,
+    labels: &[u32],
+    links: &[u32],
+    table: &[u32],
+    outputs: &[u32],
+    destination: &mut [u8],
+    n: u32,
+    m: u32,
+) -> u32
+    ensures { λ r. ⌜ record { answer = r; destination = now (destination .exit) } ≡ storeCall w h (now (labels .entry)) (now (links .entry)) (now (table .entry)) (now (outputs .entry)) (now (destination .entry)) n m ⌝ }
+{
+    container::store(w, h, labels, links, table, outputs, destination, n, m)
 }

@@ -1,4 +1,4 @@
-// Colour clusters of an image over buffers that the caller lends: `Runner::run` of visioncortex with `diagonal` off.
+// Colour clusters of an image over buffers that the caller lends: `Runner::run` of visioncortex with `diagonal` off, and `to_color_image` after it.
 mod bound;
 mod builder;
 mod calls;
@@ -14,7 +14,8 @@ mod stage1;
 mod stage2;
 
 ghost use mathlib.Core.Path.{_≡_};
-ghost use Rattle.rules.specs.Calls.{runCall};
+ghost use Rattle.rules.specs.Calls.{runCall, runAndPaintCall};
+ghost use Rattle.rules.specs.Demand3.{Demand3Left};
 ghost use Rattle.color_clusters.specs.Types.{configOf};
 use color::Color;
 
@@ -74,4 +75,38 @@ pub fn run(
         return Answer { number, n: 0, m: 0 };
     }
     calls::accepted(o, w, h, image, labels, links, table, outputs, work)
+}
+
+// `run`, and then its picture: demand 3 of what is left. A number other than 0 refuses the call, which changes nothing; no check refuses the painting of a run.
+pub fn run_and_paint(
+    o: RunnerConfig,
+    w: u32,
+    h: u32,
+    image: &[u8],
+    labels: &mut [u32],
+    links: &mut [u32],
+    table: &mut [u32],
+    outputs: &mut [u32],
+    work: &mut [u32],
+    picture: &mut [u8],
+) -> Answer
+    ensures { λ r. ⌜ record { ran = record { number = r .number; n = r .n; m = r .m; buffers = record { labels = now (labels .exit); links = now (links .exit); table = now (table .exit); outputs = now (outputs .exit); work = now (work .exit) } }; picture = now (picture .exit) } ≡ runAndPaintCall (configOf o) w h (now (image .entry)) (record { labels = now (labels .entry); links = now (links .entry); table = now (table .entry); outputs = now (outputs .entry); work = now (work .entry) }) (now (picture .entry)) ⌝ }
+    ensures { λ r. ⌜ (r .number ≡ 0 → Demand3Left (configOf o) w h (now (image .entry)) (r .n) (now (labels .exit)) (now (links .exit)) (now (table .exit)) (now (picture .exit))) ⌝ }
+{
+    let number = checks::run_and_paint_answer(
+        o,
+        w,
+        h,
+        image.len(),
+        labels.len(),
+        links.len(),
+        table.len(),
+        outputs.len(),
+        work.len(),
+        picture.len(),
+    );
+    if number != 0 {
+        return Answer { number, n: 0, m: 0 };
+    }
+    calls::accepted_and_painted(o, w, h, image, labels, links, table, outputs, work, picture)
 }

@@ -9,6 +9,17 @@ pub fn cut(buffer: &mut [u32], n: usize) -> &mut [u32] {
     &mut buffer[0..k]
 }
 
+// The first n numbers of buffer, to be read.
+pub fn first(buffer: &[u32], n: usize) -> &[u32] {
+    &buffer[0..reading::least(n, buffer.len())]
+}
+
+// The first n bytes of buffer, or all of it where it is shorter.
+pub fn cut_bytes(buffer: &mut [u8], n: usize) -> &mut [u8] {
+    let k = reading::least(n, buffer.len());
+    &mut buffer[0..k]
+}
+
 // One more, where it is to be counted.
 pub fn count(sum: u64, more: bool) -> u64 {
     if more {
@@ -30,6 +41,32 @@ fn fill(buffer: &mut [u32]) {
         buffer[i] = pattern(i);
         i += 1;
     }
+}
+
+// What stands at a place of a picture or of a destination before a call.
+fn byte_pattern(i: usize) -> u8 {
+    (i % 251) as u8
+}
+
+// Puts that into all of buffer.
+pub fn fill_bytes(buffer: &mut [u8]) {
+    let mut i = 0;
+    while i < buffer.len() {
+        buffer[i] = byte_pattern(i);
+        i += 1;
+    }
+}
+
+// Whether bytes are those that stand from a place on before a call.
+pub fn are_filled(bytes: &[u8], from: usize) -> bool {
+    let mut i = 0;
+    while i < bytes.len() {
+        if bytes[i] != byte_pattern(std::num::wrapping_add_usize(from, i)) {
+            return false;
+        }
+        i += 1;
+    }
+    true
 }
 
 // Puts the pattern into every buffer.
@@ -61,6 +98,24 @@ pub fn run_filled(
 ) -> Answer {
     fill_all(labels, links, table, outputs, work);
     color_clusters::run(o, w, h, image, labels, links, table, outputs, work)
+}
+
+// Runs and paints in buffers that are filled with the pattern.
+pub fn run_and_paint_filled(
+    o: RunnerConfig,
+    w: u32,
+    h: u32,
+    image: &[u8],
+    labels: &mut [u32],
+    links: &mut [u32],
+    table: &mut [u32],
+    outputs: &mut [u32],
+    work: &mut [u32],
+    picture: &mut [u8],
+) -> Answer {
+    fill_all(labels, links, table, outputs, work);
+    fill_bytes(picture);
+    color_clusters::run_and_paint(o, w, h, image, labels, links, table, outputs, work, picture)
 }
 
 // Whether buffer holds the pattern from a place on.

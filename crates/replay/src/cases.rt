@@ -1,9 +1,13 @@
-// The recorded cases: each is run and compared.
+// The recorded cases: each is run, painted and stored, and compared.
 use crate::buffers::Compared;
 use crate::buffers::compare;
 use crate::buffers::count;
 use crate::buffers::cut;
+use crate::buffers::cut_bytes;
+use crate::buffers::fill_bytes;
+use crate::buffers::first;
 use crate::buffers::is_zero;
+use crate::buffers::run_and_paint_filled;
 use crate::buffers::run_filled;
 use crate::reading::Place;
 use crate::reading::after_pixels;
@@ -15,6 +19,8 @@ use crate::reading::part;
 use crate::reading::past;
 use crate::reading::refill;
 use crate::reading::signed;
+use crate::sheets::is_picture;
+use crate::sheets::is_sheet;
 use color::Color;
 use color_clusters::Answer;
 use color_clusters::KeyingAction;
@@ -100,14 +106,6 @@ fn area(w: u32, h: u32) -> usize {
     w as usize * h as usize
 }
 
-// Passes over the recorded picture: nothing is painted yet.
-fn compare_picture(s: &[u8], c: Compared, size: usize) -> Compared {
-    Compared {
-        same: c.same,
-        at: after_pixels(s, c.at, size),
-    }
-}
-
 // Compares what a run answered and left in the buffers with what is recorded at a place.
 fn compare_answer(
     s: &[u8],
@@ -127,8 +125,75 @@ fn compare_answer(
     let c1 = compare(s, c0, labels, size);
     let c2 = compare(s, c1, links, size);
     let c3 = compare(s, c2, table, SLOT * (n.value as usize));
-    let c4 = compare(s, c3, outputs, m.value as usize);
-    compare_picture(s, c4, size)
+    compare(s, c3, outputs, m.value as usize)
+}
+
+// Whether painting from the buffers of a run gives the picture that is recorded at a place.
+fn is_painted(
+    s: &[u8],
+    at: usize,
+    case: Case,
+    a: Answer,
+    links: &[u32],
+    table: &[u32],
+    outputs: &[u32],
+    picture: &mut [u8],
+) -> bool {
+    fill_bytes(picture);
+    let number = container::to_color_image(
+        case.w,
+        case.h,
+        links,
+        table,
+        outputs,
+        picture,
+        a.n,
+        a.m,
+    );
+    (number == 0) & is_picture(s, at, case.w, case.h, area(case.w, case.h), picture)
+}
+
+// Whether storing from the buffers of a run gives their numbers.
+fn is_kept(
+    case: Case,
+    a: Answer,
+    labels: &[u32],
+    links: &[u32],
+    table: &[u32],
+    outputs: &[u32],
+    destination: &mut [u8],
+) -> bool {
+    let size = area(case.w, case.h);
+    let pixels = first(labels, size);
+    let after = first(links, size);
+    let slots = first(table, SLOT * (a.n as usize));
+    let entries = first(outputs, a.m as usize);
+    let length = 8 + 4 * pixels.len() + 4 * (slots.len() / SLOT) + 2 * entries.len();
+    let sheet = cut_bytes(destination, length);
+    fill_bytes(sheet);
+    let number = container::store(
+        case.w,
+        case.h,
+        labels,
+        links,
+        table,
+        outputs,
+        sheet,
+        a.n,
+        a.m,
+    );
+    (number == 0)
+        & is_sheet(
+            sheet,
+            case.w,
+            case.h,
+            a.n,
+            a.m,
+            pixels,
+            after,
+            slots,
+            entries,
+        )
 }
 
 // A recorded case: its image is the bytes from `from` to `to`, and its answer begins there.
@@ -140,6 +205,29 @@ struct Case {
     to: usize,
 }
 
+// Compares what a run left, paints and stores from it, and compares that too.
+fn compare_buffers(
+    s: &[u8],
+    case: Case,
+    a: Answer,
+    labels: &[u32],
+    links: &[u32],
+    table: &[u32],
+    outputs: &[u32],
+    work: &[u32],
+    picture: &mut [u8],
+    destination: &mut [u8],
+) -> Compared {
+    let size = area(case.w, case.h);
+    let c = compare_answer(s, case.to, size, a, labels, links, table, outputs, work);
+    let painted = is_painted(s, c.at, case, a, links, table, outputs, picture);
+    let kept = is_kept(case, a, labels, links, table, outputs, destination);
+    Compared {
+        same: c.same & painted & kept,
+        at: c.at,
+    }
+}
+
 // Runs a case and compares.
 fn run_and_compare(
     s: &[u8],
@@ -149,10 +237,12 @@ fn run_and_compare(
     table: &mut [u32],
     outputs: &mut [u32],
     work: &mut [u32],
+    picture: &mut [u8],
+    destination: &mut [u8],
 ) -> Compared {
     let o = case.o;
     let image = part(s, case.from, case.to);
-    let answer = run_filled(
+    let a = run_filled(
         o,
         case.w,
         case.h,
@@ -163,17 +253,81 @@ fn run_and_compare(
         outputs,
         work,
     );
-    compare_answer(
+    compare_buffers(
         s,
-        case.to,
-        area(case.w, case.h),
-        answer,
+        case,
+        a,
         labels,
         links,
         table,
         outputs,
         work,
+        picture,
+        destination,
     )
+}
+
+// Runs and paints a case in one call, and compares. What is recorded of it ends with the picture.
+fn run_and_paint_and_compare(
+    s: &[u8],
+    case: Case,
+    labels: &mut [u32],
+    links: &mut [u32],
+    table: &mut [u32],
+    outputs: &mut [u32],
+    work: &mut [u32],
+    picture: &mut [u8],
+) -> Compared {
+    let o = case.o;
+    let image = part(s, case.from, case.to);
+    let a = run_and_paint_filled(
+        o,
+        case.w,
+        case.h,
+        image,
+        labels,
+        links,
+        table,
+        outputs,
+        work,
+        picture,
+    );
+    let size = area(case.w, case.h);
+    let c = compare_answer(s, case.to, size, a, labels, links, table, outputs, work);
+    Compared {
+        same: c.same & is_picture(s, c.at, case.w, case.h, size, picture),
+        at: after_pixels(s, c.at, size),
+    }
+}
+
+// Makes every call of a case in buffers of its size.
+fn compare_case(
+    s: &[u8],
+    case: Case,
+    labels: &mut [u32],
+    links: &mut [u32],
+    table: &mut [u32],
+    outputs: &mut [u32],
+    work: &mut [u32],
+    picture: &mut [u8],
+    destination: &mut [u8],
+) -> Compared {
+    let ran = run_and_compare(
+        s,
+        case,
+        labels,
+        links,
+        table,
+        outputs,
+        work,
+        picture,
+        destination,
+    );
+    let painted = run_and_paint_and_compare(s, case, labels, links, table, outputs, work, picture);
+    Compared {
+        same: ran.same & painted.same,
+        at: painted.at,
+    }
 }
 
 // Replays the case at a place. One that is too large or not whole ends past s.
@@ -185,6 +339,8 @@ fn replay_case(
     table: &mut [u32],
     outputs: &mut [u32],
     work: &mut [u32],
+    picture: &mut [u8],
+    destination: &mut [u8],
 ) -> Compared {
     let settings = settings_at(s, at);
     let o = settings.o;
@@ -204,7 +360,7 @@ fn replay_case(
         from: h.at,
         to: after_pixels(s, h.at, size),
     };
-    run_and_compare(
+    compare_case(
         s,
         case,
         cut(labels, size + MARGIN),
@@ -212,6 +368,8 @@ fn replay_case(
         cut(table, SLOT * (size + 1) + MARGIN),
         cut(outputs, 2 * size + MARGIN),
         cut(work, 8 * size + 8 + MARGIN),
+        cut_bytes(picture, 4 * size),
+        destination,
     )
 }
 
@@ -231,11 +389,23 @@ fn step(
     table: &mut [u32],
     outputs: &mut [u32],
     work: &mut [u32],
+    picture: &mut [u8],
+    destination: &mut [u8],
 ) -> Progress {
     let before = r.place;
     let p = refill(window, before, LONGEST);
     let s = part(window, 0, p.have);
-    let c = replay_case(s, p.at, labels, links, table, outputs, work);
+    let c = replay_case(
+        s,
+        p.at,
+        labels,
+        links,
+        table,
+        outputs,
+        work,
+        picture,
+        destination,
+    );
     let ran = c.at <= p.have;
     let next = Place {
         at: c.at,
@@ -265,6 +435,8 @@ pub fn replay(
     table: &mut [u32],
     outputs: &mut [u32],
     work: &mut [u32],
+    picture: &mut [u8],
+    destination: &mut [u8],
 ) -> Replayed {
     let start = refill(window, begin(), LONGEST);
     let first = number(window, start.at);
@@ -281,7 +453,17 @@ pub fn replay(
     };
     let mut i = 0;
     while i < cases {
-        r = step(window, r, labels, links, table, outputs, work);
+        r = step(
+            window,
+            r,
+            labels,
+            links,
+            table,
+            outputs,
+            work,
+            picture,
+            destination,
+        );
         i += 1;
     }
     let last = r.place;

@@ -1,9 +1,11 @@
-// Replays the recorded answers of the Rust original, which come on standard input, and tries the refusals of `run`. Prints how many calls were
+// Replays the recorded answers of the Rust original, which come on standard input, and tries the refusals of every call. Prints how many calls were
 // made and how many went wrong.
 mod buffers;
 mod cases;
+mod edges;
 mod reading;
 mod refusals;
+mod sheets;
 
 // Writes two counts, each with the words after it.
 fn print_counts(first: u64, words: &[u8], second: u64, end: &[u8]) {
@@ -27,6 +29,8 @@ fn main() {
     let mut table = [0u32; 50423];
     let mut outputs = [0u32; 4802];
     let mut work = [0u32; 19210];
+    let mut picture = [0u8; 9600];
+    let mut destination = [0u8; 28812];
     let replayed = cases::replay(
         &mut window,
         &mut labels,
@@ -34,6 +38,8 @@ fn main() {
         &mut table,
         &mut outputs,
         &mut work,
+        &mut picture,
+        &mut destination,
     );
     print_replayed(replayed);
     let tried = refusals::all(
@@ -43,11 +49,25 @@ fn main() {
         &mut table,
         &mut outputs,
         &mut work,
+        &mut picture,
     );
     print_counts(
         tried.calls,
-        b" calls at the edges of the refusals, ",
+        b" runs at the edges of the refusals, ",
         tried.wrong,
+        b" wrong\n",
+    );
+    let sheets = edges::all(
+        &mut labels,
+        &mut links,
+        &mut table,
+        &mut outputs,
+        &mut picture,
+    );
+    print_counts(
+        sheets.calls,
+        b" pictures, rows and sheets at the edges of the refusals, ",
+        sheets.wrong,
         b" wrong\n",
     );
 }

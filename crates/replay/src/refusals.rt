@@ -1,7 +1,10 @@
-// The refusals of `run` at their edges: the number, and that a refused call changes nothing.
+// The refusals of `run` and `run_and_paint` at their edges: the number, and that a refused call changes nothing.
+use crate::buffers::are_filled;
 use crate::buffers::count;
 use crate::buffers::cut;
+use crate::buffers::cut_bytes;
 use crate::buffers::is_untouched;
+use crate::buffers::run_and_paint_filled;
 use crate::buffers::run_filled;
 use crate::reading::part;
 use color::Color;
@@ -156,7 +159,7 @@ fn is_right(
         & is_untouched(work, 0)
 }
 
-// Makes a call, and answers whether it went right.
+// Runs, and answers whether it went right.
 fn call(
     e: Edge,
     image: &[u8],
@@ -171,7 +174,103 @@ fn call(
     is_right(e.number, a, labels, links, table, outputs, work)
 }
 
-// Cuts the buffers to the lengths of a call, and makes it.
+// Runs and paints, and answers whether it went right: with a picture of another length than 3 × 2 ask for, 6 where nothing comes before it.
+fn call_and_paint(
+    e: Edge,
+    image: &[u8],
+    labels: &mut [u32],
+    links: &mut [u32],
+    table: &mut [u32],
+    outputs: &mut [u32],
+    work: &mut [u32],
+    picture: &mut [u8],
+) -> bool {
+    let o = settings(e.shift);
+    let a = run_and_paint_filled(
+        o,
+        e.w,
+        e.h,
+        image,
+        labels,
+        links,
+        table,
+        outputs,
+        work,
+        picture,
+    );
+    let number = if (e.number == 0) & (picture.len() != 24) {
+        6
+    } else {
+        e.number
+    };
+    is_right(number, a, labels, links, table, outputs, work)
+        & ((number == 0) | are_filled(picture, 0))
+}
+
+// Runs with a picture of n bytes.
+fn with_picture(
+    e: Edge,
+    image: &[u8],
+    labels: &mut [u32],
+    links: &mut [u32],
+    table: &mut [u32],
+    outputs: &mut [u32],
+    work: &mut [u32],
+    picture: &mut [u8],
+    n: usize,
+) -> bool {
+    call_and_paint(
+        e,
+        image,
+        labels,
+        links,
+        table,
+        outputs,
+        work,
+        cut_bytes(picture, n),
+    )
+}
+
+// Runs with pictures one byte too short, of the right length, and one byte too long; answers how often it went wrong.
+fn try_pictures(
+    e: Edge,
+    image: &[u8],
+    labels: &mut [u32],
+    links: &mut [u32],
+    table: &mut [u32],
+    outputs: &mut [u32],
+    work: &mut [u32],
+    picture: &mut [u8],
+) -> u64 {
+    let mut wrong = 0;
+    let mut n = 23;
+    while n < 26 {
+        let right = with_picture(e, image, labels, links, table, outputs, work, picture, n);
+        wrong = count(wrong, !right);
+        n += 1;
+    }
+    wrong
+}
+
+// Makes the calls of an edge, without a picture and with one.
+fn try_cut(
+    e: Edge,
+    image: &[u8],
+    labels: &mut [u32],
+    links: &mut [u32],
+    table: &mut [u32],
+    outputs: &mut [u32],
+    work: &mut [u32],
+    picture: &mut [u8],
+) -> u64 {
+    let right = call(e, image, labels, links, table, outputs, work);
+    count(
+        try_pictures(e, image, labels, links, table, outputs, work, picture),
+        !right,
+    )
+}
+
+// Cuts the buffers to the lengths of an edge, and makes its calls.
 fn try_edge(
     e: Edge,
     bytes: &[u8],
@@ -180,8 +279,9 @@ fn try_edge(
     table: &mut [u32],
     outputs: &mut [u32],
     work: &mut [u32],
-) -> bool {
-    call(
+    picture: &mut [u8],
+) -> u64 {
+    try_cut(
         e,
         part(bytes, 0, e.image),
         cut(labels, e.labels),
@@ -189,6 +289,7 @@ fn try_edge(
         cut(table, e.table),
         cut(outputs, e.outputs),
         cut(work, e.work),
+        picture,
     )
 }
 
@@ -206,16 +307,26 @@ pub fn all(
     table: &mut [u32],
     outputs: &mut [u32],
     work: &mut [u32],
+    picture: &mut [u8],
 ) -> Tried {
     let mut wrong = 0;
     let mut k = 0;
     while k < EDGES {
-        let right = try_edge(edge_at(k), bytes, labels, links, table, outputs, work);
-        wrong = count(wrong, !right);
+        let more = try_edge(
+            edge_at(k),
+            bytes,
+            labels,
+            links,
+            table,
+            outputs,
+            work,
+            picture,
+        );
+        wrong = std::num::wrapping_add_u64(wrong, more);
         k += 1;
     }
     Tried {
-        calls: EDGES,
+        calls: 4 * EDGES,
         wrong,
     }
 }

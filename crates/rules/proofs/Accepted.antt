@@ -1,7 +1,7 @@
 -- What an accepted call has passed: an answer of 0 taken apart into the facts that its checks ask for.
 use mathlib.Core.Path.{_≡_, refl, sym, ap, _∙_, subst}
 use mathlib.Core.Bool.{Bool, true, false, not, _&&_, _||_}
-use mathlib.Core.List.{List, []}
+use mathlib.Core.List.{List, [], _∷_, _++_}
 use Prim.Native.Nat.{ℕ, zero, suc, _+_, _*_, _≤_, _<_}
 use native.Mathlib.Decide.{ℕ-discrete}
 use native.Mathlib.Nat.{mul-pos}
@@ -10,7 +10,7 @@ use lib.Dec.{T, leb, ltb, eqb, nltb→le, le→leb}
 use lib.IntN.{ℤ, pos, negsuc}
 use Rattle.rules.specs.Base.{if_then_else_}
 use Rattle.rules.specs.Color.{RunnerConfig}
-use Rattle.rules.specs.Refusals.{limit, badShift, tableLength, outputsLength, workLength, runAnswer, runAndPaintAnswer, paintAnswer}
+use Rattle.rules.specs.Refusals.{Check, when, firstFailed, sizeChecks, notFourEach, runChecks, limit, badShift, tableLength, outputsLength, workLength, runAnswer, runAndPaintAnswer, paintAnswer}
 use Rattle.rules.proofs.Facts.{is-false, eqb-no, eqb-yes}
 use Rattle.rules.proofs.Visits.{eqb-is, eqb-ne}
 
@@ -26,7 +26,7 @@ neither false b e = (refl, e)
 pub not-below : (a b : ℕ) → ltb a b ≡ false → b ≤ a
 not-below a b e = nltb→le a b (subst (λ x. T (not x)) (sym e) tt)
 
-equal : (a b : ℕ) → not (eqb a b) ≡ false → a ≡ b
+pub equal : (a b : ℕ) → not (eqb a b) ≡ false → a ≡ b
 equal a b e = go (eqb a b) refl e
   where
     go : (x : Bool) → eqb a b ≡ x → not x ≡ false → a ≡ b
@@ -53,6 +53,26 @@ good-size w h a b = record {
         go : (x : ℕ) → (x ≡ 0 → ⊥) → 0 < x
         go zero d = absurd (d refl)
         go (suc x) d = omega arith
+
+-- no check has the number 0
+abbrev pub Numbered : List Check → Type 0
+Numbered [] = Unit {0}
+Numbered (when zero bad ∷ checks) = ⊥
+Numbered (when (suc number) bad ∷ checks) = Numbered checks
+
+-- where the first checks pass the later ones are answered, else what the first answer
+pub failed-later : (first later : List Check) → Numbered first → firstFailed (first ++ later) ≡ (if eqb (firstFailed first) 0 then firstFailed later else firstFailed first)
+failed-later [] later n = refl
+failed-later (when zero bad ∷ checks) later n = absurd n
+failed-later (when (suc number) true ∷ checks) later n = rw (eqb-no (suc number) 0 (λ z. omega arith))
+failed-later (when (suc number) false ∷ checks) later n = failed-later checks later n
+
+pub sized : (w h : ℕ) (later : List Check) → firstFailed (sizeChecks w h ++ later) ≡ (if eqb (firstFailed (sizeChecks w h)) 0 then firstFailed later else firstFailed (sizeChecks w h))
+sized w h later = failed-later (sizeChecks w h) later tt
+
+-- an image whose size passes has at most so many pixels
+pub sized-small : (w h : ℕ) → firstFailed (sizeChecks w h) ≡ 0 → w * h ≤ limit
+sized-small w h e = not-below limit (w * h) (passed 2 (ltb limit (w * h)) 0 (passed 1 (eqb w 0 || eqb h 0) _ e .1) .0)
 
 -- image, labels, links, table, outputs and work are lengths
 pub record Accepted (o : RunnerConfig) (w h image labels links table outputs work : ℕ) : Type 0 where
@@ -87,3 +107,19 @@ run-accepted o w h image labels links table outputs work e =
       outputs-fit = not-below outputs (outputsLength (w * h)) (l3 .1);
       work-fits = not-below work (workLength (w * h)) (l4 .1);
     }
+
+-- run and painting in one call: 6 where `run` alone is accepted
+pub run-and-paint-number : (o : RunnerConfig) (w h image labels links table outputs work picture : ℕ) → runAndPaintAnswer w h o image labels links table outputs work picture
+    ≡ (if eqb (runAnswer w h o image labels links table outputs work) 0 then firstFailed (when 6 (notFourEach w h picture) ∷ []) else runAnswer w h o image labels links table outputs work)
+unfolding runAnswer runAndPaintAnswer
+run-and-paint-number o w h image labels links table outputs work picture = failed-later (runChecks w h o image labels links table outputs work) (when 6 (notFourEach w h picture) ∷ []) tt
+
+pub run-and-paint-accepted : (o : RunnerConfig) (w h image labels links table outputs work picture : ℕ) → runAndPaintAnswer w h o image labels links table outputs work picture ≡ 0
+    → Accepted o w h image labels links table outputs work × (picture ≡ 4 * (w * h))
+run-and-paint-accepted o w h image labels links table outputs work picture e =
+    let x = go (runAnswer w h o image labels links table outputs work) (sym (run-and-paint-number o w h image labels links table outputs work picture) ∙ e) in
+    (run-accepted o w h image labels links table outputs work (x .0), equal picture (4 * (w * h)) (passed 5 (notFourEach w h picture) 0 (x .1) .0))
+  where
+    go : (r : ℕ) {l : ℕ} → (if eqb r 0 then l else r) ≡ 0 → (r ≡ 0) × (l ≡ 0)
+    go zero e = (refl, e)
+    go (suc r) e = absurd (omega (arith, rw (eqb-no (suc r) 0 (λ z. omega arith)) at e))

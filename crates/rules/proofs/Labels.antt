@@ -23,12 +23,12 @@ use Rattle.rules.specs.Ledger.{ledger}
 use Rattle.rules.specs.Claim.{bit}
 use Rattle.rules.specs.Ranges.{Below}
 use Rattle.rules.specs.Demand3.{Discarded, Agrees}
-use Rattle.rules.proofs.Facts.{is-false, eqb-yes, bit-T}
+use Rattle.rules.proofs.Facts.{is-false, eqb-yes}
 use Rattle.rules.proofs.Visits.{Going}
 use Rattle.rules.proofs.Connected.{AllSome}
 use Rattle.rules.proofs.Connected.{Some as Sided}
 use Rattle.rules.proofs.Links.{after-none}
-use Rattle.rules.proofs.Ranges.{occurs-below}
+use Rattle.rules.proofs.Ranges.{pixels-below}
 use Rattle.rules.proofs.Moments.{compared, Keeps, visit-keeps, start-keeps}
 use Rattle.rules.proofs.Order.{Turning, turns-keep, start-turning}
 use Rattle.rules.proofs.Interior.{member-held}
@@ -115,7 +115,7 @@ module _ (o : RunnerConfig) (w h : ℕ) (image : List ℕ) where
   unfolding interior
   interior-labels a m s G C k r =
       any-same (λ p. allIn (λ q. member q (cluster s k .pixels)) (sides w h p)) (λ p. allIn (λ q. eqb (label s q) k && not (isKey o image q && isDiscard (o .keyingAction))) (sides w h p)) (w * h)
-      (cluster s k .pixels) (occurs-below (w * h) (cluster s k .pixels) (λ p z. C .placed k p (bit-T (ledger (s .log) k p) (λ y. z (C .lists k p ∙ y))) .0))
+      (cluster s k .pixels) (pixels-below s C k)
       (λ p l. allIn-same o w h (λ q. member q (cluster s k .pixels)) (λ q. eqb (label s q) k && not (isKey o image q && isDiscard (o .keyingAction))) (sides w h p)
       (sided-map (λ q. q < w * h) (λ q. member q (cluster s k .pixels) ≡ eqb (label s q) k && not (isKey o image q && isDiscard (o .keyingAction))) (member-label a m s G C k r) (sides w h p) (sides-fit w h p l)))
 

@@ -17,7 +17,7 @@ concat-append : (g : ℕ → List ℕ) (xs : List ℕ) (n : ℕ) → concat (map
 concat-append g [] n = append-nil (g n)
 concat-append g (x ∷ xs) n = ap (λ l. g x ++ l) (concat-append g xs n) ∙ sym (append-assoc (g x) (concat (map g xs)) (g n))
 
-concat-snoc : (g : ℕ → List ℕ) (n : ℕ) → concat (map g (upTo (suc n))) ≡ concat (map g (upTo n)) ++ g n
+pub concat-snoc : (g : ℕ → List ℕ) (n : ℕ) → concat (map g (upTo (suc n))) ≡ concat (map g (upTo n)) ++ g n
 unfolding upTo
 concat-snoc g n = concat-append g (upTo n) n
 
@@ -45,12 +45,12 @@ single : (f : ℕ → ℕ) (n p : ℕ) → p < n → getD (map f (upTo n)) p 0 �
 single f n p l = getD-any (map f (upTo n)) p 0 (f 0) (omega (arith, length-map (upTo n) f, upTo-length n)) ∙ List·getD-map f (upTo n) p 0 ∙ ap f (upTo-at n p l)
 
 -- where n entries are written one after another, each k long
-spread : (g : ℕ → List ℕ) (k : ℕ) → ((i : ℕ) → length (g i) ≡ k) → (n : ℕ) → length (concat (map g (upTo n))) ≡ k * n
+pub spread : (g : ℕ → List ℕ) (k : ℕ) → ((i : ℕ) → length (g i) ≡ k) → (n : ℕ) → length (concat (map g (upTo n))) ≡ k * n
 unfolding upTo
 spread g k e zero = omega arith
 spread g k e (suc n) = ap length (concat-snoc g n) ∙ length-append (concat (map g (upTo n))) (g n) ∙ omega (arith, spread g k e n, e n, mul-suc k n)
 
-spread-at : (g : ℕ → List ℕ) (k : ℕ) → ((i : ℕ) → length (g i) ≡ k) → (n i f : ℕ) → i < n → f < k → getD (concat (map g (upTo n))) (k * i + f) 0 ≡ getD (g i) f 0
+pub spread-at : (g : ℕ → List ℕ) (k : ℕ) → ((i : ℕ) → length (g i) ≡ k) → (n i f : ℕ) → i < n → f < k → getD (concat (map g (upTo n))) (k * i + f) 0 ≡ getD (g i) f 0
 unfolding upTo
 spread-at g k e zero i f l b = absurd (omega arith)
 spread-at g k e (suc n) i f l b = ap (λ xs. getD xs (k * i + f) 0) (concat-snoc g n) ∙ go (ℕ-discrete i n) (spread-at g k e n i f)

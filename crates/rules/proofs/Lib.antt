@@ -15,6 +15,7 @@ pub mod Bounds
 pub mod Chains
 pub mod Moments
 pub mod Demand3
+pub mod Left
 pub mod Listed
 pub mod Links
 pub mod Order
@@ -28,6 +29,7 @@ pub mod Labels
 pub mod Neighbours
 pub mod Turns
 pub mod Accepted
+pub mod Walks
 pub mod Layouts
 pub mod Paint
 pub mod Calls

@@ -359,28 +359,11 @@ module _ (o : RunnerConfig) (w height : ℕ) (image : List ℕ) where
   run-last = newest-map (λ u. Shares (traced o w height image .now) u) (λ u. Shares (run o w height image) u) (moments o w height image)
       (λ u x. (sym (ap (λ s. s .labels) traced-now) ∙ x .0, sym (ap (λ s. s .clusters) traced-now) ∙ x .1, sym (ap (λ s. s .log) traced-now) ∙ x .2)) (K .newest)
 
-  dropEmpty-agrees : (h : Held) (s : State) → Agrees o w height image h s → Agrees o w height image h (dropEmpty s)
-  unfolding dropEmpty link
-  dropEmpty-agrees h s A = record {
-    placed = A .placed;
-    counts = A .counts;
-    whole = A .whole;
-    distinct = A .distinct;
-    labelled = A .labelled;
-    discarded = A .discarded;
-    lists = A .lists;
-    chains = A .chains;
-    sums = A .sums;
-    residues = A .residues;
-    shade = A .shade;
-  }
-
   pub run-returned : Agrees o w height image (ledger (run o w height image .log)) (run o w height image)
-  unfolding run
+  unfolding run dropEmpty link
   run-returned =
       let R = stage2-keep o w height image Keeps visit-keeps start-keeps in
-      dropEmpty-agrees (ledger (stage2 o w height (stage1 o w height image) .log)) (stage2 o w height (stage1 o w height image))
-      (compared o w height image (suc (w * height)) 0 (stage2 o w height (stage1 o w height image)) (R .0) (R .1 .0) (R .1 .1))
+      compared o w height image (suc (w * height)) 0 (stage2 o w height (stage1 o w height image)) (R .0) (R .1 .0) (R .1 .1)
 
   pub run-width : length (run o w height image .labels) ≡ w * height
   unfolding run dropEmpty

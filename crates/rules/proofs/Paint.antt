@@ -1,30 +1,30 @@
--- Painting from the buffers of a run answers 0 and gives its picture.
+-- What is read of a slot in buffers that a state lies in; painting from the buffers of a run answers 0 and gives its picture.
 use mathlib.Core.Path.{_≡_, refl, sym, ap, ap₂, _∙_, subst}
-use mathlib.Core.Logic.{_≢_, _⊎_, inl, inr}
+use mathlib.Core.Logic.{_≢_, inl, inr}
 use mathlib.Core.Bool.{Bool, true, false, not, _&&_, _||_}
-use mathlib.Core.List.{List, [], _∷_, _++_}
-use Prim.Native.Nat.{ℕ, zero, suc, _+_, _*_, _≤_, _<_}
+use mathlib.Core.List.{List, [], _∷_}
+use Prim.Native.Nat.{ℕ, zero, suc, _*_, _≤_, _<_}
 use native.Mathlib.Decide.{ℕ-discrete}
 use native.Mathlib.Omega.{arith}
-use lib.Dec.{T, leb, ltb, eqb, le→leb, lt→ltb, ltb→lt}
+use lib.Dec.{T, leb, ltb, eqb, le→leb, lt→ltb}
 use lib.ListN.{length, getD, replicate}
 use Rattle.rules.specs.Base.{if_then_else_, each, eachBack, timesBack}
-use Rattle.rules.specs.Color.{RunnerConfig, Color, ColorSum, average, hasAverage}
-use Rattle.rules.specs.State.{State, cluster, label, area}
-use Rattle.rules.specs.Run.{run, dropEmpty, stage1, stage2}
-use Rattle.rules.specs.Layout.{slotWidth, firstOf, link, links, walk, sumNumbers, slot, table}
+use Rattle.rules.specs.Color.{RunnerConfig, ColorSum, average, hasAverage}
+use Rattle.rules.specs.State.{State, cluster}
+use Rattle.rules.specs.Run.{run}
+use Rattle.rules.specs.Layout.{slotWidth, firstOf, link, links, walk, sumNumbers, slot}
 use Rattle.rules.specs.Picture.{paintPixel, paintCluster, paint}
-use Rattle.rules.specs.Ledger.{ledger}
-use Rattle.rules.specs.Claim.{occurs, bit, Stands, Paintable}
+use Rattle.rules.specs.Ledger.{Held, ledger}
+use Rattle.rules.specs.Claim.{occurs, bit, Paintable}
 use Rattle.rules.specs.Ranges.{Below}
-use Rattle.rules.specs.Paint.{reads, Painted, slotNumber, residueOf, pixelsOf, entryAnswer, entriesAnswer, paintSlot, paintEntries, painting, Lies}
+use Rattle.rules.specs.Paint.{reads, Painted, slotNumber, fiveFrom, sumOf, residueOf, pixelsOf, entryAnswer, entriesAnswer, paintSlot, paintEntries, painting, Lies}
 use Rattle.rules.specs.Demand3.{Agrees}
-use Rattle.rules.proofs.Facts.{eqb-no, bit-T}
+use Rattle.rules.proofs.Facts.{eqb-no, eqb-yes, bit-T}
 use Rattle.rules.proofs.Visits.{eqb-is}
-use Rattle.rules.proofs.Outputs.{In, in-keep}
+use Rattle.rules.proofs.Outputs.{In}
 use Rattle.rules.proofs.Pictures.{run-paintable}
-use Rattle.rules.proofs.Moments.{run-returned, run-width}
-use Rattle.rules.proofs.Ranges.{occurs-below}
+use Rattle.rules.proofs.Moments.{run-returned}
+use Rattle.rules.proofs.Ranges.{pixels-below}
 
 -- ---- from last to first
 
@@ -77,13 +77,22 @@ has-average x z r g b a =
     all false true false c d e x y v w = absurd y
     all false false b c d e x y v w = absurd x
 
--- ---- one slot
+-- ---- one slot of a state that agrees with a ledger
 
-module _ (size n m : ℕ) (ls tb os : List ℕ) (s : State) (L : Lies size s n m ls tb os) (k : ℕ) (P : Paintable size n (cluster s k) k)
-    (chain : walk (link s) (firstOf (cluster s k .pixels)) (length (cluster s k .pixels)) ≡ cluster s k .pixels) (below : Below size (cluster s k .pixels)) where
+-- the list of any slot is read along the links: a cluster that lists a pixel stands
+pub chained : {o : RunnerConfig} {w h : ℕ} {image : List ℕ} {held : Held} (s : State) → Agrees o w h image held s → (k : ℕ)
+    → walk (link s) (firstOf (cluster s k .pixels)) (length (cluster s k .pixels)) ≡ cluster s k .pixels
+unfolding walk
+chained {held} s A k = go (cluster s k .pixels) refl
+  where
+    go : (ps : List ℕ) → cluster s k .pixels ≡ ps → walk (link s) (firstOf ps) (length ps) ≡ ps
+    go [] e = refl
+    go (p ∷ ps) e = rw e at (A .chains k (p, bit-T (held k p) (λ y. omega (arith, ap (occurs p) e, A .lists k p, ap bit (eqb-yes p p refl)))))
+
+module _ {o : RunnerConfig} {w h : ℕ} {image : List ℕ} {held : Held} {n m : ℕ} {ls tb os : List ℕ} (s : State) (A : Agrees o w h image held s) (L : Lies (w * h) s n m ls tb os) (k : ℕ) (l : k < n) where
   number : (f : ℕ) → f < slotWidth → slotNumber tb k f ≡ getD (slot s k) f 0
   unfolding slotNumber
-  number f b = L .numbers k f (P .slot) b
+  number f b = L .numbers k f l b
 
   first : slotNumber tb k 0 ≡ firstOf (cluster s k .pixels)
   unfolding slot
@@ -93,23 +102,26 @@ module _ (size n m : ℕ) (ls tb os : List ℕ) (s : State) (L : Lies size s n m
   unfolding slot
   count = number 1 (omega arith)
 
-  residue : residueOf tb k ≡ cluster s k .residue
-  unfolding residueOf slot sumNumbers
-  residue = λ j. record { r = number 11 (omega arith) j; g = number 12 (omega arith) j; b = number 13 (omega arith) j; a = number 14 (omega arith) j; count = number 15 (omega arith) j }
+  pub slot-sum : sumOf tb k ≡ cluster s k .sum
+  unfolding fiveFrom slot sumNumbers
+  slot-sum = λ j. record { r = number 6 (omega arith) j; g = number 7 (omega arith) j; b = number 8 (omega arith) j; a = number 9 (omega arith) j; count = number 10 (omega arith) j }
 
-  listed : T (reads size ls (slotNumber tb k 0) (slotNumber tb k 1)) × (pixelsOf ls tb k ≡ cluster s k .pixels)
+  pub slot-residue : residueOf tb k ≡ cluster s k .residue
+  unfolding fiveFrom slot sumNumbers
+  slot-residue = λ j. record { r = number 11 (omega arith) j; g = number 12 (omega arith) j; b = number 13 (omega arith) j; a = number 14 (omega arith) j; count = number 15 (omega arith) j }
+
+  pub slot-pixels : T (reads (w * h) ls (slotNumber tb k 0) (slotNumber tb k 1)) × (pixelsOf ls tb k ≡ cluster s k .pixels)
   unfolding pixelsOf
-  listed =
-      let r = reads-walk size s ls (L .linked) (length (cluster s k .pixels)) (firstOf (cluster s k .pixels)) (ap length chain) (subst (Below size) (sym chain) below) in
-      subst (λ x. T (reads size ls x (slotNumber tb k 1)) × (walk (λ p. getD ls p 0) x (slotNumber tb k 1) ≡ cluster s k .pixels)) (sym first)
-      (subst (λ y. T (reads size ls (firstOf (cluster s k .pixels)) y) × (walk (λ p. getD ls p 0) (firstOf (cluster s k .pixels)) y ≡ cluster s k .pixels)) (sym count)
-      (r .0, r .1 ∙ chain))
+  slot-pixels =
+      let c = chained s A k in
+      let r = reads-walk (w * h) s ls (L .linked) (length (cluster s k .pixels)) (firstOf (cluster s k .pixels)) (ap length c) (subst (Below (w * h)) (sym c) (pixels-below s A k)) in
+      rw (first, count) (r .0, r .1 ∙ c)
 
-  pub entry-passes : entryAnswer size n ls tb k ≡ 0
+  pub entry-passes : Paintable (w * h) n (cluster s k) k → entryAnswer (w * h) n ls tb k ≡ 0
   unfolding entryAnswer
-  entry-passes =
-      go (ltb k n) (hasAverage (residueOf tb k)) (leb (slotNumber tb k 1) size) (reads size ls (slotNumber tb k 0) (slotNumber tb k 1)) (lt→ltb k n (P .slot))
-      (subst (λ x. T (hasAverage x)) (sym residue) (has-average (cluster s k .residue) (P .some) (P .r) (P .g) (P .b) (P .a))) (le→leb (slotNumber tb k 1) size (omega (arith, count, P .pixels))) (listed .0)
+  entry-passes P =
+      go (ltb k n) (hasAverage (residueOf tb k)) (leb (slotNumber tb k 1) (w * h)) (reads (w * h) ls (slotNumber tb k 0) (slotNumber tb k 1)) (lt→ltb k n l)
+      (subst (λ x. T (hasAverage x)) (sym slot-residue) (has-average (cluster s k .residue) (P .some) (P .r) (P .g) (P .b) (P .a))) (le→leb (slotNumber tb k 1) (w * h) (omega (arith, count, P .pixels))) (slot-pixels .0)
     where
       go : (a b c d : Bool) → T a → T b → T c → T d → _≡_ {A = ℕ} (if not a then 8 else (if not b then 9 else (if not c || not d then 10 else 0))) 0
       go true true true true x y z v = refl
@@ -120,7 +132,7 @@ module _ (size n m : ℕ) (ls tb os : List ℕ) (s : State) (L : Lies size s n m
 
   pub entry-paints : (picture : List ℕ) → paintSlot ls tb k picture ≡ paintCluster s k picture
   unfolding paintSlot paintCluster
-  entry-paints picture = ap₂ (λ ps x. each ps (paintPixel (average x)) picture) (listed .1) residue
+  entry-paints picture = ap₂ (λ ps x. each ps (paintPixel (average x)) picture) (slot-pixels .1) slot-residue
 
 -- ---- all entries
 
@@ -154,15 +166,6 @@ module _ (size n : ℕ) (ls tb os : List ℕ) where
 -- ---- a run
 
 module _ (image : List ℕ) (bytes : (i : ℕ) → getD image i 0 ≤ 255) (o : RunnerConfig) (w h : ℕ) where
-  output-stands : (k : ℕ) → In k (run o w h image .outputs) → Stands (ledger (run o w h image .log)) k
-  unfolding run dropEmpty
-  output-stands k i = run-returned o w h image .counts k .0 (ltb→lt 0 (cluster (run o w h image) k .sum .count) (in-keep (λ j. ltb 0 (cluster (stage2 o w h (stage1 o w h image)) j .sum .count)) k (stage2 o w h (stage1 o w h image) .outputs) i))
-
-  pixels-below : (k : ℕ) → Below (w * h) (cluster (run o w h image) k .pixels)
-  pixels-below k =
-      let C = run-returned o w h image in
-      occurs-below (w * h) (cluster (run o w h image) k .pixels) (λ p z. C .placed k p (bit-T (ledger (run o w h image .log) k p) (λ y. z (C .lists k p ∙ y))) .0)
-
   pub run-painting : (n m : ℕ) (ls tb os given : List ℕ) → Lies (w * h) (run o w h image) n m ls tb os
       → painting (w * h) n m ls tb os given ≡ record { answer = 0; picture = paint (w * h) (run o w h image) }
   unfolding painting paintEntries paint
@@ -183,15 +186,15 @@ module _ (image : List ℕ) (bytes : (i : ℕ) → getD image i 0 ≤ 255) (o : 
       fit : (i : ℕ) → i < m → Paintable (w * h) n (cluster s (entry i)) (entry i)
       fit i l = subst (λ x. Paintable (w * h) x (cluster s (entry i)) (entry i)) (sym (L .slots)) (run-paintable image bytes o w h (entry i) (inside i l))
 
-      chain : (i : ℕ) → i < m → walk (link s) (firstOf (cluster s (entry i) .pixels)) (length (cluster s (entry i) .pixels)) ≡ cluster s (entry i) .pixels
-      chain i l = run-returned o w h image .chains (entry i) (output-stands (entry i) (inside i l))
+      A : Agrees o w h image (ledger (s .log)) s
+      A = run-returned o w h image
 
       zero-all : entriesAnswer (w * h) n ls tb os m ≡ 0
-      zero-all = answers-zero (w * h) n ls tb os m (λ i l. ap (entryAnswer (w * h) n ls tb) (L .put i l) ∙ entry-passes (w * h) n m ls tb os s L (entry i) (fit i l) (chain i l) (pixels-below (entry i)))
+      zero-all = answers-zero (w * h) n ls tb os m (λ i l. ap (entryAnswer (w * h) n ls tb) (L .put i l) ∙ entry-passes s A L (entry i) (fit i l .slot) (fit i l))
 
       same : timesBack m (λ i. paintSlot ls tb (getD os i 0)) (replicate (4 * (w * h)) 0) ≡ eachBack (s .outputs) (paintCluster s) (replicate (4 * (w * h)) 0)
       same =
           back-same (λ i. paintSlot ls tb (getD os i 0)) (λ i. paintCluster s (entry i)) m
-          (λ i l x. ap (λ k. paintSlot ls tb k x) (L .put i l) ∙ entry-paints (w * h) n m ls tb os s L (entry i) (fit i l) (chain i l) (pixels-below (entry i)) x) (replicate (4 * (w * h)) 0)
+          (λ i l x. ap (λ k. paintSlot ls tb k x) (L .put i l) ∙ entry-paints s A L (entry i) (fit i l .slot) x) (replicate (4 * (w * h)) 0)
           ∙ ap (λ z. timesBack z (λ i. paintCluster s (entry i)) (replicate (4 * (w * h)) 0)) (L .entries)
           ∙ back-list (paintCluster s) (s .outputs) (replicate (4 * (w * h)) 0)

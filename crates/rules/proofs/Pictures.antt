@@ -15,7 +15,7 @@ use Rattle.rules.specs.Stage2.{passes, prepareStage2}
 use Rattle.rules.specs.Picture.{paint}
 use Rattle.rules.specs.Run.{run, stage1, stage2, dropEmpty}
 use Rattle.rules.specs.Ledger.{Held, ledger, owned}
-use Rattle.rules.specs.Demand3.{Discarded, Shown}
+use Rattle.rules.specs.Demand3.{Discarded, stateView, Shown}
 use Rattle.rules.specs.Claim.{bit, occurs, tally, countOf, Stands, Smallest, Paintable}
 use Rattle.rules.proofs.Facts.{is-true, countOf-lt, countOf-some, countOf-none}
 use Rattle.rules.proofs.Basic.{Basic}
@@ -58,7 +58,7 @@ prepareStage2-shows o w h image off s E G = record {
     late j z (inr d) = omega arith
 
 -- p is shown in the colour of the cluster that owns it
-pub run-pictured : (o : RunnerConfig) (w h : ℕ) (image : List ℕ) → (T (keyingOn o) → ⊥) → (p : ℕ) → p < w * h → Shown (w * h) image (ledger (run o w h image .log)) (run o w h image) p
+pub run-pictured : (o : RunnerConfig) (w h : ℕ) (image : List ℕ) → (T (keyingOn o) → ⊥) → (p : ℕ) → p < w * h → Shown (w * h) image (ledger (run o w h image .log)) (stateView (run o w h image)) (paint (w * h) (run o w h image)) p
 unfolding run dropEmpty
 run-pictured o w h image off = show
   where
@@ -97,7 +97,7 @@ run-pictured o w h image off = show
         back x j y (no d) =
             absurd (omega (arith, fewer (R .0 .sound) j k (R .0 .sound .forest .own-inner j k q y (x .0) d), x .1 j (R .0 .sound .forest .own-held j q y) d))
 
-    show : (p : ℕ) → p < w * h → Shown (w * h) image (ledger (s .log)) (dropEmpty s) p
+    show : (p : ℕ) → p < w * h → Shown (w * h) image (ledger (s .log)) (stateView (dropEmpty s)) (paint (w * h) (dropEmpty s)) p
     show p l =
         let top : T (ledger (s .log) (label s p) p) = B .shown p (R .1 .lit p l) in
         let f = first-find (ledger (s .log)) p (label s p) (s .outputs) (all-out o w h s (R .0) (R .1) (label s p) (p, top)) top in

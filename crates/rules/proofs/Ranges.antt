@@ -21,7 +21,7 @@ use Rattle.rules.specs.Claim.{bit, occurs, tally, countOf, Stands}
 use Rattle.rules.specs.Moments.{moments, Each}
 use Rattle.rules.specs.Order.{start, turns}
 use Rattle.rules.specs.Ranges.{Fits, OnImage, Below, Ranged}
-use Rattle.rules.specs.Demand3.{Discarded}
+use Rattle.rules.specs.Demand3.{Discarded, Agrees}
 use Rattle.rules.proofs.Facts.{is-false, standing, T-bit, bit-T, eqb-yes, countOf-le}
 use Rattle.rules.proofs.Basic.{Basic, Moved, three, plain-to, deepened-to, merge-f, merge-t, merge-moved, deepen-f, deepen-t, deepen-moved}
 use Rattle.rules.proofs.Sound.{Sound}
@@ -76,6 +76,9 @@ after-le n p (x ∷ y ∷ ys) b = go (eqb p x) (after-le n p (y ∷ ys) (b .1))
 pub occurs-below : (n : ℕ) (xs : List ℕ) → ((p : ℕ) → occurs p xs ≢ 0 → p < n) → Below n xs
 occurs-below n [] f = tt
 occurs-below n (x ∷ xs) f = (f x (λ z. let e : bit (eqb x x) ≡ 1 = ap bit (eqb-yes x x refl) in omega arith), occurs-below n xs (λ p d. f p (λ z. d (omega arith))))
+
+pub pixels-below : {o : RunnerConfig} {w h : ℕ} {image : List ℕ} {held : Held} (s : State) → Agrees o w h image held s → (k : ℕ) → Below (w * h) (cluster s k .pixels)
+pixels-below {w} {h} {held} s A k = occurs-below (w * h) (cluster s k .pixels) (λ p z. A .placed k p (bit-T (held k p) (λ y. z (A .lists k p ∙ y))) .0)
 
 -- ---- what is not told by the ledger, kept by every visit
 

@@ -39,12 +39,15 @@ walk next (suc p) (suc n) = p ∷ walk next (next p) n
 abbrev pub slotWidth : ℕ
 slotWidth = 21
 
--- the places in a slot that painting and storing read
+-- the places in a slot of what is read from it
 abbrev pub firstPixelAt : ℕ
 firstPixelAt = 0
 
 abbrev pub pixelCountAt : ℕ
 pixelCountAt = 1
+
+abbrev pub sumAt : ℕ
+sumAt = 6
 
 abbrev pub residueAt : ℕ
 residueAt = 11

@@ -22,6 +22,7 @@ pub mod Ledger
 pub mod Claim
 pub mod Moments
 pub mod Demand3
+pub mod Viewed
 -- and the rules told for code to follow.
 pub mod Order
 pub mod Ranges

@@ -9,7 +9,7 @@ use lib.ListN.{length, getD, replicate}
 use Rattle.rules.specs.Base.{if_then_else_, each, timesBack}
 use Rattle.rules.specs.Color.{Color, ColorSum, average, hasAverage}
 use Rattle.rules.specs.State.{State}
-use Rattle.rules.specs.Layout.{link, slot, walk, slotWidth, firstPixelAt, pixelCountAt, residueAt}
+use Rattle.rules.specs.Layout.{link, slot, walk, slotWidth, firstPixelAt, pixelCountAt, sumAt, residueAt}
 use Rattle.rules.specs.Picture.{paintPixel}
 
 -- whether `count` more pixels can be listed along the links from v, a pixel number plus one: no link is 0 or above size
@@ -22,15 +22,22 @@ reads size links (suc p) (suc count) = ltb p size && reads size links (getD link
 unfoldable pub slotNumber : List ℕ → ℕ → ℕ → ℕ
 slotNumber table k f = getD table (slotWidth * k + f) 0
 
-unfoldable pub residueOf : List ℕ → ℕ → ColorSum
+-- the five numbers from number f of slot k on, as a sum
+unfoldable pub fiveFrom : ℕ → List ℕ → ℕ → ColorSum
 unfolding slotNumber
-residueOf table k = record {
-  r = slotNumber table k residueAt;
-  g = slotNumber table k (residueAt + 1);
-  b = slotNumber table k (residueAt + 2);
-  a = slotNumber table k (residueAt + 3);
-  count = slotNumber table k (residueAt + 4);
+fiveFrom f table k = record {
+  r = slotNumber table k f;
+  g = slotNumber table k (f + 1);
+  b = slotNumber table k (f + 2);
+  a = slotNumber table k (f + 3);
+  count = slotNumber table k (f + 4);
 }
+
+abbrev pub sumOf : List ℕ → ℕ → ColorSum
+sumOf = fiveFrom sumAt
+
+abbrev pub residueOf : List ℕ → ℕ → ColorSum
+residueOf = fiveFrom residueAt
 
 -- the pixels of slot k, along the links
 unfoldable pub pixelsOf : List ℕ → List ℕ → ℕ → List ℕ
@@ -39,7 +46,7 @@ pixelsOf links table k = walk (λ p. getD links p 0) (slotNumber table k firstPi
 
 -- The answer for an entry that names slot k: 8, 9, 10, or 0. size is w × h, n the number of slots.
 unfoldable pub entryAnswer : ℕ → ℕ → List ℕ → List ℕ → ℕ → ℕ
-unfolding slotNumber residueOf hasAverage
+unfolding slotNumber fiveFrom hasAverage
 entryAnswer size n links table k =
     if not (ltb k n) then 8
     else (if not (hasAverage (residueOf table k)) then 9
@@ -56,7 +63,7 @@ entriesAnswer size n links table outputs (suc i) =
 
 -- the cluster of slot k is painted with its residue average
 unfoldable pub paintSlot : List ℕ → List ℕ → ℕ → List ℕ → List ℕ
-unfolding pixelsOf residueOf paintPixel average
+unfolding pixelsOf fiveFrom paintPixel average
 paintSlot links table k picture = each (pixelsOf links table k) (paintPixel (average (residueOf table k))) picture
 
 -- zeros, then entries m - 1, .. 0

@@ -7,14 +7,20 @@ use Rattle.rules.specs.Base.{upTo, concat, noneAbove}
 use Rattle.rules.specs.Layout.{firstPixelAt, pixelCountAt}
 use Rattle.rules.specs.Paint.{slotNumber}
 
+-- label and link of each of the pixels 0 .. size - 1
+unfoldable pub pixelNumbers : List ℕ → List ℕ → ℕ → List ℕ
+unfolding upTo
+pixelNumbers labels links size = concat (map (λ p. getD labels p 0 ∷ getD links p 0 ∷ []) (upTo size))
+
+-- first pixel and count of each of the slots 0 .. n - 1
+unfoldable pub slotNumbers : List ℕ → ℕ → List ℕ
+unfolding upTo slotNumber
+slotNumbers table n = concat (map (λ k. slotNumber table k firstPixelAt ∷ slotNumber table k pixelCountAt ∷ []) (upTo n))
+
 -- w, h, n, m; label and link of each pixel; first pixel and count of each slot; the outputs
 unfoldable pub storedNumbers : ℕ → ℕ → List ℕ → List ℕ → List ℕ → List ℕ → ℕ → ℕ → List ℕ
-unfolding upTo slotNumber
-storedNumbers w h labels links table outputs n m =
-    (w ∷ h ∷ n ∷ m ∷ [])
-    ++ concat (map (λ p. getD labels p 0 ∷ getD links p 0 ∷ []) (upTo (w * h)))
-    ++ concat (map (λ k. slotNumber table k firstPixelAt ∷ slotNumber table k pixelCountAt ∷ []) (upTo n))
-    ++ take m outputs
+unfolding pixelNumbers slotNumbers
+storedNumbers w h labels links table outputs n m = (w ∷ h ∷ n ∷ m ∷ []) ++ pixelNumbers labels links (w * h) ++ slotNumbers table n ++ take m outputs
 
 -- some number does not fit in two bytes
 unfoldable pub isLarge : List ℕ → Bool

@@ -52,10 +52,10 @@ worked c =
 abbrev P : List ℕ
 P = 10 ∷ 20 ∷ 30 ∷ 255 ∷ []
 
-abbrev B : List ℕ
+abbrev pub B : List ℕ
 B = 0 ∷ 0 ∷ 0 ∷ 255 ∷ []
 
-abbrev W : List ℕ
+abbrev pub W : List ℕ
 W = 255 ∷ 255 ∷ 255 ∷ 255 ∷ []
 
 abbrev K : List ℕ
@@ -89,14 +89,14 @@ abbrev pub defaults : RunnerConfig
 defaults = config all 16 64 (rgba 0 0 0 0) Keep
 
 -- H3 to H6: the smallest area is 0
-abbrev small : ℕ → ℕ → RunnerConfig
+abbrev pub small : ℕ → ℕ → RunnerConfig
 small hierarchical diff = config hierarchical 0 diff (rgba 0 0 0 0) Keep
 
 -- H7 to H10: the key is K
 abbrev keyed : KeyingAction → RunnerConfig
 keyed action = config all 16 64 (rgba 255 0 255 255) action
 
-abbrev total : ℕ → ℕ → ℕ → ℕ → ℕ → ColorSum
+abbrev pub total : ℕ → ℕ → ℕ → ℕ → ℕ → ColorSum
 total r g b a count = record { r = r; g = g; b = b; a = a; count = count }
 
 abbrev case : ℕ → ℕ → List ℕ → RunnerConfig → List Fact → Case

@@ -1,9 +1,11 @@
 //! The numbers that a caller lends.
 
+use std::fmt;
+
 use judge::answer::{self, SLOT};
 
 /// The five buffers of one call.
-#[derive(Clone, Debug, PartialEq, Eq)]
+#[derive(Clone, Debug, Default, PartialEq, Eq)]
 pub struct Buffers {
     pub labels: Vec<u32>,
     pub links: Vec<u32>,
@@ -35,6 +37,11 @@ impl Lengths {
     }
 
     /// The five lengths, in the order of the call.
+    pub fn each(mut self) -> [usize; 5] {
+        self.each_mut().map(|length| *length)
+    }
+
+    /// The same, to be changed.
     pub fn each_mut(&mut self) -> [&mut usize; 5] {
         [
             &mut self.labels,
@@ -43,6 +50,16 @@ impl Lengths {
             &mut self.outputs,
             &mut self.work,
         ]
+    }
+}
+
+impl fmt::Display for Lengths {
+    fn fmt(&self, out: &mut fmt::Formatter) -> fmt::Result {
+        let [labels, links, table, outputs, work] = self.each();
+        write!(
+            out,
+            "labels {labels}, links {links}, table {table}, outputs {outputs}, work {work}"
+        )
     }
 }
 
@@ -110,7 +127,8 @@ impl Buffers {
         ]
     }
 
-    fn each_mut(&mut self) -> [&mut Vec<u32>; 5] {
+    /// The buffers in the order of the call, to be changed.
+    pub fn each_mut(&mut self) -> [&mut Vec<u32>; 5] {
         [
             &mut self.labels,
             &mut self.links,
@@ -132,10 +150,9 @@ mod tests {
 
     #[test]
     fn buffers_have_the_lengths_of_the_rules() {
-        let mut lengths = Buffers::exact(6).lengths();
+        let lengths = Buffers::exact(6).lengths();
         assert_eq!(lengths, Lengths::exact(6));
-        let numbers = lengths.each_mut().map(|length| *length);
-        assert_eq!(numbers, [6, 6, 147, 12, 56]);
+        assert_eq!(lengths.each(), [6, 6, 147, 12, 56]);
     }
 
     #[test]

@@ -1,10 +1,14 @@
-//! The call of the library, without its pointers.
+//! The calls of the library, without their pointers.
 
 use judge::case::{Case, KeyingAction, Settings};
 use judge::text;
 
 use crate::buffers::Buffers;
-use crate::ffi::color_clusters_run;
+use crate::ffi::{
+    color_clusters_paint, color_clusters_row_check, color_clusters_run,
+    color_clusters_run_and_paint, color_clusters_store,
+};
+use crate::sheet::Sheet;
 
 pub use crate::ffi::Answer;
 
@@ -46,21 +50,24 @@ impl<'a> Call<'a> {
     }
 }
 
-/// Runs the library.
-pub fn run(call: &Call, buffers: &mut Buffers) -> Answer {
-    let settings = call.settings;
-    let [key_r, key_g, key_b, key_a] = settings.key;
-    let Buffers {
-        labels,
-        links,
-        table,
-        outputs,
-        work,
-    } = buffers;
-    // SAFETY: each pointer comes with the length of its own vector or slice; no two overlap, all
-    // but the image are borrowed mutably, and the call keeps none of them.
-    unsafe {
-        color_clusters_run(
+/// Calls a function of the library with numbers, slices and numbers again. A slice becomes a pointer
+/// and a length.
+macro_rules! pass {
+    ($function:ident($($number:expr),*; $($slice:expr),*; $($last:expr),*)) => {
+        // SAFETY: each pointer comes with the length of its own slice. The slices are borrowed at
+        // the same time and mutably, so no two overlap; the image is borrowed beside them. The
+        // call keeps none of them.
+        unsafe { $function($($number,)* $($slice.as_mut_ptr(), $slice.len(),)* $($last),*) }
+    };
+}
+
+/// Calls a function that takes all that a run takes, and then perhaps a picture.
+macro_rules! pass_run {
+    ($function:ident, $call:expr, $buffers:expr $(, $picture:expr)?) => {{
+        let Call { settings, action, width, height, image } = *$call;
+        let [key_r, key_g, key_b, key_a] = settings.key;
+        let Buffers { labels, links, table, outputs, work } = $buffers;
+        pass!($function(
             settings.is_same_color_a,
             settings.is_same_color_b,
             settings.hierarchical,
@@ -68,25 +75,42 @@ pub fn run(call: &Call, buffers: &mut Buffers) -> Answer {
             settings.good_max_area,
             settings.hollow_neighbours,
             settings.deepen_diff,
-            key_r,
-            key_g,
-            key_b,
-            key_a,
-            call.action,
-            call.width,
-            call.height,
-            call.image.as_ptr(),
-            call.image.len(),
-            labels.as_mut_ptr(),
-            labels.len(),
-            links.as_mut_ptr(),
-            links.len(),
-            table.as_mut_ptr(),
-            table.len(),
-            outputs.as_mut_ptr(),
-            outputs.len(),
-            work.as_mut_ptr(),
-            work.len(),
-        )
-    }
+            key_r, key_g, key_b, key_a, action, width, height, image.as_ptr(), image.len();
+            labels, links, table, outputs, work $(, $picture)?;
+        ))
+    }};
+}
+
+/// Runs the library.
+pub fn run(call: &Call, buffers: &mut Buffers) -> Answer {
+    pass_run!(color_clusters_run, call, buffers)
+}
+
+/// Runs the library and paints.
+pub fn run_and_paint(call: &Call, buffers: &mut Buffers, picture: &mut [u8]) -> Answer {
+    pass_run!(color_clusters_run_and_paint, call, buffers, picture)
+}
+
+/// Paints a sheet. What is only read is borrowed mutably all the same, here and below: should the
+/// library write to it, that is seen, and nothing is undefined.
+pub fn paint(sheet: Sheet, buffers: &mut Buffers, picture: &mut [u8]) -> u32 {
+    pass!(color_clusters_paint(
+        sheet.width, sheet.height;
+        buffers.links, buffers.table, buffers.outputs, picture;
+        sheet.n, sheet.m
+    ))
+}
+
+/// Checks the call for a row of a picture.
+pub fn row_check((width, height): (u32, u32), picture: &mut [u8], y: u32) -> u32 {
+    pass!(color_clusters_row_check(width, height; picture; y))
+}
+
+/// Stores a sheet.
+pub fn store(sheet: Sheet, buffers: &mut Buffers, destination: &mut [u8]) -> u32 {
+    pass!(color_clusters_store(
+        sheet.width, sheet.height;
+        buffers.labels, buffers.links, buffers.table, buffers.outputs, destination;
+        sheet.n, sheet.m
+    ))
 }

@@ -1,112 +1,117 @@
 //! The comparison of the library with the original, buffer by buffer.
 
+pub mod damaged;
 pub mod large;
 pub mod refused;
 pub mod small;
 pub mod workers;
 
+mod damage;
+mod held;
 mod lending;
 
 use std::fmt;
 
+use judge::answer;
 use judge::case::Case;
 use judge::original;
 
 use crate::buffers::{Buffers, Lengths};
-use crate::call::{self, Answer, Call};
+use crate::call::{Answer, Call};
+use crate::sheet::Sheet;
+use held::{Memory, What};
 
 /// Where the library did something else than it must.
 #[derive(Debug)]
 pub struct Difference {
-    /// The numbers that differ.
-    what: Vec<String>,
-    /// The call in the judge's form of a case.
-    line: String,
-    action: u32,
-    lent: Lengths,
+    /// What was called.
+    call: String,
+    /// What differs.
+    what: What,
+}
+
+impl Difference {
+    /// Of a run that is lent buffers of these lengths, and perhaps a picture.
+    fn of_run(call: &Call, lent: Lengths, picture: usize, what: What) -> Self {
+        let line = call.line();
+        let action = call.action;
+        Self {
+            call: format!("{line}\naction {action}; lent: {lent}, picture {picture}"),
+            what,
+        }
+    }
 }
 
 impl fmt::Display for Difference {
     fn fmt(&self, out: &mut fmt::Formatter) -> fmt::Result {
-        let Lengths {
-            labels,
-            links,
-            table,
-            outputs,
-            work,
-        } = self.lent;
-        writeln!(out, "{}", self.line)?;
-        writeln!(
-            out,
-            "action {}; lent: labels {labels}, links {links}, table {table}, outputs {outputs}, \
-             work {work}",
-            self.action
-        )?;
-        write!(out, "{}", self.what.join("\n"))
+        write!(out, "{}\n{}", self.call, self.what.join("\n"))
     }
 }
 
-/// Holds an accepted call against the original's answer.
+/// Holds an accepted run, and the calls on what it leaves, against the original's answer.
 pub fn accepted(case: &Case, call: &Call, lent: &Buffers) -> Result<(), Difference> {
     let right = original::answer(case);
-    let answer = Answer {
-        number: 0,
-        n: right.n(),
-        m: right.m(),
-    };
-    check(call, lent, answer, &lent.after(&right))
+    every_call(case, call, lent, &right)
+        .map_err(|what| Difference::of_run(call, lent.lengths(), right.picture.len(), what))
 }
 
-/// Holds a call that must be refused with `number` against a call that does nothing.
-pub fn refused(call: &Call, lent: &Buffers, number: u32) -> Result<(), Difference> {
+fn every_call(
+    case: &Case,
+    call: &Call,
+    lent: &Buffers,
+    right: &answer::Answer,
+) -> Result<(), What> {
+    let sheet = Sheet::of(case, right);
     let answer = Answer {
+        number: 0,
+        n: sheet.n,
+        m: sheet.m,
+    };
+    let buffers = &lent.after(right);
+    held::run(call, lent, answer, buffers)?;
+
+    let bytes = &lending::bytes(right.picture.len());
+    let before = Memory {
+        buffers: lent,
+        bytes,
+    };
+    let painted = Memory {
+        buffers,
+        bytes: &right.picture,
+    };
+    held::run_and_paint(call, before, answer, painted)?;
+
+    // The run was seen to leave just these numbers.
+    let left = Memory { buffers, bytes };
+    held::paint(sheet, left, 0, || right.picture.clone())?;
+    for y in [0, case.height - 1, case.height] {
+        held::row_check((case.width, case.height), &right.picture, y)?;
+    }
+    let bytes = &lending::bytes(sheet.stored_length());
+    held::store(sheet, Memory { buffers, bytes })
+}
+
+/// Holds runs that must be refused with these numbers, without and with painting, against calls
+/// that do nothing. Where a run without painting is not refused, it is not tried.
+pub fn refused(
+    call: &Call,
+    lent: &Buffers,
+    picture: &[u8],
+    [without, with]: [u32; 2],
+) -> Result<(), Difference> {
+    let answer = |number| Answer {
         number,
         ..Answer::default()
     };
-    check(call, lent, answer, lent)
-}
-
-/// Runs the library and compares its answer and every number of every buffer.
-fn check(call: &Call, lent: &Buffers, answer: Answer, after: &Buffers) -> Result<(), Difference> {
-    let mut buffers = lent.clone();
-    let answered = call::run(call, &mut buffers);
-    if answered == answer && buffers == *after {
-        return Ok(());
-    }
-    let mut what = Vec::new();
-    if answered != answer {
-        what.push(format!("it answers {answered:?}, not {answer:?}"));
-    }
-    for ((name, found), (_, wanted)) in buffers.named().into_iter().zip(after.named()) {
-        what.extend(first_difference(name, found, wanted));
-    }
-    Err(Difference {
-        what,
-        line: call.line(),
-        action: call.action,
-        lent: lent.lengths(),
-    })
-}
-
-/// Says at which place two buffers of one length differ first.
-fn first_difference(name: &str, found: &[u32], wanted: &[u32]) -> Option<String> {
-    let place = (0..found.len()).find(|&place| found[place] != wanted[place])?;
-    Some(format!(
-        "{name}[{place}] is {}, not {}",
-        found[place], wanted[place]
-    ))
-}
-
-#[cfg(test)]
-mod tests {
-    use super::*;
-
-    #[test]
-    fn the_first_difference_is_found() {
-        assert_eq!(first_difference("labels", &[1, 2, 3], &[1, 2, 3]), None);
-        assert_eq!(
-            first_difference("labels", &[1, 2, 3], &[1, 4, 5]).as_deref(),
-            Some("labels[1] is 2, not 4")
-        );
-    }
+    let memory = Memory {
+        buffers: lent,
+        bytes: picture,
+    };
+    let run = if without == 0 {
+        Ok(())
+    } else {
+        held::run(call, lent, answer(without), lent)
+    };
+    run.and_then(|()| held::run_and_paint(call, memory, answer(with), memory))
+        .map_err(|what| Difference::of_run(call, lent.lengths(), picture.len(), what))
 }

@@ -7,3 +7,4 @@ pub mod differ;
 mod ffi;
 pub mod images;
 pub mod refusals;
+pub mod sheet;

@@ -53,6 +53,21 @@ impl Default for Settings {
     }
 }
 
+impl Settings {
+    /// The seven numbers, in the order of a case's line.
+    pub fn numbers(&self) -> [i64; 7] {
+        [
+            self.is_same_color_a.into(),
+            self.is_same_color_b.into(),
+            self.hierarchical.into(),
+            self.good_min_area.into(),
+            self.good_max_area.into(),
+            self.hollow_neighbours.into(),
+            self.deepen_diff.into(),
+        ]
+    }
+}
+
 /// Settings and an image that the rules accept; `image` holds 4 × width × height bytes.
 #[derive(Clone, Debug, PartialEq, Eq)]
 pub struct Case {

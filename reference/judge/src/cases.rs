@@ -92,17 +92,12 @@ impl Kind {
 }
 
 /// The kinds of `mixed`, each as often as it stands here.
-const MIX: [Kind; 9] = [
-    Kind::Tiny,
-    Kind::Random,
-    Kind::Random,
-    Kind::Strip,
-    Kind::Extreme,
-    Kind::Nested,
-    Kind::Edge,
-    Kind::Isolated,
-    Kind::Isolated,
-];
+const MIX: [Kind; 9] = {
+    use Kind::*;
+    [
+        Tiny, Random, Random, Strip, Extreme, Nested, Edge, Isolated, Isolated,
+    ]
+};
 
 /// The `index`-th case of a mix of the small kinds.
 pub fn mixed(seed: u64, index: u64) -> Case {

@@ -84,27 +84,13 @@ pub fn encode(recorded: &[Recorded]) -> Vec<u8> {
 
 fn encode_case(bytes: &mut Vec<u8>, case: &Case) {
     let settings = &case.settings;
-    let [r, g, b, a] = settings.key.map(u32::from);
-    let numbers = [
-        settings.is_same_color_a as u32,
-        settings.is_same_color_b as u32,
-        settings.hierarchical,
-        settings.good_min_area,
-        settings.good_max_area,
-        settings.hollow_neighbours,
-        settings.deepen_diff as u32,
-        r,
-        g,
-        b,
-        a,
-        match settings.keying_action {
-            KeyingAction::Keep => 0,
-            KeyingAction::Discard => 1,
-        },
-        case.width,
-        case.height,
-    ];
-    write_all(bytes, &numbers);
+    let action = match settings.keying_action {
+        KeyingAction::Keep => 0,
+        KeyingAction::Discard => 1,
+    };
+    write_all(bytes, &settings.numbers().map(|number| number as u32));
+    write_all(bytes, &settings.key.map(u32::from));
+    write_all(bytes, &[action, case.width, case.height]);
     bytes.extend_from_slice(&case.image);
 }
 

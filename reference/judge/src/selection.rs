@@ -6,9 +6,6 @@ use judge::case::Case;
 use judge::cases::{self, Kind};
 use judge::options::Options;
 
-/// The options that select cases, for the help.
-pub const USAGE: &str = "[--kind K] [--seed S] [--from I] [--count N]";
-
 /// A stretch of one kind of cases, or of a mix of the small kinds.
 pub struct Selection {
     kind: Option<Kind>,
@@ -55,14 +52,15 @@ impl Selection {
     }
 }
 
-/// The kinds with what they hold, for the help.
-pub fn describe_kinds() -> String {
+/// The help of a command over selected cases; `says` tells what it does with them.
+pub fn help(command: &str, says: &str) -> String {
     let kinds: String = Kind::ALL
         .iter()
         .map(|kind| format!("  {:9} {}\n", kind.name(), kind.describe()))
         .collect();
     format!(
-        "A case depends on kind, seed S (1) and index alone; worked and tiny are enumerations,\n\
+        "judge {command} [--kind K] [--seed S] [--from I] [--count N]\n\n{says}\n\n\
+         A case depends on kind, seed S (1) and index alone; worked and tiny are enumerations,\n\
          which know no seed. Without a kind, small kinds are mixed.\n\n{kinds}"
     )
 }

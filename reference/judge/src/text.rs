@@ -37,16 +37,13 @@ pub fn parse_case(line: &str) -> Result<Case, String> {
 pub fn format_case(case: &Case) -> String {
     let settings = &case.settings;
     format!(
-        "{} {} {} {} {} {} {} {} {} {} {} {}",
+        "{} {} {} {} {} {}",
         case.width,
         case.height,
-        settings.is_same_color_a,
-        settings.is_same_color_b,
-        settings.hierarchical,
-        settings.good_min_area,
-        settings.good_max_area,
-        settings.hollow_neighbours,
-        settings.deepen_diff,
+        settings
+            .numbers()
+            .map(|number| number.to_string())
+            .join(" "),
         to_hex(&settings.key),
         match settings.keying_action {
             KeyingAction::Keep => "keep",

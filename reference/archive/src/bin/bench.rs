@@ -5,9 +5,10 @@ use std::process::ExitCode;
 use std::time::{Duration, Instant};
 
 use archive::buffers::Buffers;
-use archive::call::{self, Call};
+use archive::call::{self, Answer, Call};
 use archive::differ;
 use archive::images::{Texture, KEY};
+use archive::sheet::Sheet;
 use judge::case::{Case, KeyingAction, Settings, HIERARCHICAL_MAX};
 use judge::options::Options;
 use judge::original;
@@ -29,12 +30,44 @@ const KEY_NOISE_SIZE: (u32, u32) = (100, 100);
 const REPEATS: usize = 9;
 const SEED: u64 = 1;
 
+/// The medians of the original's and of the library's times, in seconds.
+type Medians = (f64, f64);
+
+/// Times one part of the work on both sides.
+type Timer = fn(&mut Bench) -> Medians;
+
+/// The parts that are timed.
+const PARTS: [(&str, Timer); 3] = [
+    ("run", time_run),
+    ("paint", time_paint),
+    ("run and paint", time_run_and_paint),
+];
+
 /// What is timed.
 struct Plan {
     textures: Vec<Texture>,
     repeats: usize,
     width: Option<u32>,
     height: Option<u32>,
+}
+
+/// A case, and the library's memory, which is always as the call before left it.
+struct Bench<'a> {
+    case: &'a Case,
+    buffers: Buffers,
+    picture: Vec<u8>,
+    repeats: usize,
+}
+
+impl<'a> Bench<'a> {
+    fn new(case: &'a Case, repeats: usize) -> Self {
+        Self {
+            case,
+            buffers: Buffers::exact(case.area() as usize),
+            picture: vec![0; case.image.len()],
+            repeats,
+        }
+    }
 }
 
 fn main() -> ExitCode {
@@ -60,8 +93,9 @@ fn help() -> String {
     format!(
         "bench [--texture T] [--repeats N] [--width W] [--height H]\n\n\
          Times the original and the proved library on the same image, one after the other, N times\n\
-         ({REPEATS}) after one run of each that is not timed, and prints the medians. The ratio is the\n\
-         original's time divided by the library's. Images are {}×{}, of key-noise {}×{}.\n\
+         ({REPEATS}) after one time of each that is not counted, and prints the medians: of the run, of\n\
+         painting what it left, and of both together. The ratio is the original's time divided by the\n\
+         library's. Images are {}×{}, of key-noise {}×{}.\n\
          Settings are the defaults; under the textures with a key it is kept, and nothing deepens.\n\n\
          Without T: {}. All textures:\n\n{textures}\n\
          Exit status: 0 timed, 1 the two give different results, 2 bad usage.\n",
@@ -104,24 +138,26 @@ fn run(plan: &Plan) -> Result<ExitCode, String> {
         .iter()
         .map(|&texture| Ok((texture, draw(plan, texture)?)))
         .collect::<Result<Vec<(Texture, Case)>, String>>()?;
-    println!("| Texture | Size | Original, ms | Library, ms | Ratio |");
-    println!("|---|---|---|---|---|");
+    println!("| Texture | Size | Timed | Original, ms | Library, ms | Ratio |");
+    println!("|---|---|---|---|---|---|");
     for (texture, case) in &cases {
-        let buffers = Buffers::exact(case.area() as usize);
-        if let Err(difference) = differ::accepted(case, &Call::of(case), &buffers) {
+        let mut bench = Bench::new(case, plan.repeats);
+        if let Err(difference) = differ::accepted(case, &Call::of(case), &bench.buffers) {
             println!("{difference}");
             return Ok(ExitCode::from(1));
         }
-        let (original, library) = times(case, buffers, plan.repeats);
-        println!(
-            "| {} | {}×{} | {:.2} | {:.2} | {:.2} |",
-            texture.describe(),
-            case.width,
-            case.height,
-            original * 1e3,
-            library * 1e3,
-            original / library,
-        );
+        for (part, timer) in PARTS {
+            let (original, library) = timer(&mut bench);
+            println!(
+                "| {} | {}×{} | {part} | {:.3} | {:.3} | {:.2} |",
+                texture.describe(),
+                case.width,
+                case.height,
+                original * 1e3,
+                library * 1e3,
+                original / library,
+            );
+        }
     }
     Ok(ExitCode::SUCCESS)
 }
@@ -157,32 +193,67 @@ fn settings(texture: Texture) -> Settings {
     }
 }
 
-/// The medians of the original's and of the library's seconds, taken by turns.
-fn times(case: &Case, mut buffers: Buffers, repeats: usize) -> (f64, f64) {
-    time_original(case);
-    time_library(case, &mut buffers);
-    let (original, library) = (0..repeats)
-        .map(|_| (time_original(case), time_library(case, &mut buffers)))
-        .unzip();
+/// `Runner::run` and `color_clusters_run`. The copy of the original's image is not timed.
+fn time_run(bench: &mut Bench) -> Medians {
+    let call = Call::of(bench.case);
+    let original = || {
+        let runner = original::runner(bench.case);
+        time(|| runner.run())
+    };
+    let library = || time(|| call::run(&call, &mut bench.buffers));
+    medians(bench.repeats, original, library)
+}
+
+/// `to_color_image` and `color_clusters_paint`, of what one run left.
+fn time_paint(bench: &mut Bench) -> Medians {
+    let case = bench.case;
+    let clusters = original::runner(case).run();
+    let Answer { n, m, .. } = call::run(&Call::of(case), &mut bench.buffers);
+    let sheet = Sheet {
+        width: case.width,
+        height: case.height,
+        n,
+        m,
+    };
+    let original = || time(|| clusters.view().to_color_image());
+    let library = || time(|| call::paint(sheet, &mut bench.buffers, &mut bench.picture));
+    medians(bench.repeats, original, library)
+}
+
+/// Both of the original's, one after the other, and `color_clusters_run_and_paint`.
+fn time_run_and_paint(bench: &mut Bench) -> Medians {
+    let call = Call::of(bench.case);
+    let original = || {
+        let runner = original::runner(bench.case);
+        time(|| {
+            let clusters = runner.run();
+            let image = clusters.view().to_color_image();
+            (clusters, image)
+        })
+    };
+    let library = || time(|| call::run_and_paint(&call, &mut bench.buffers, &mut bench.picture));
+    medians(bench.repeats, original, library)
+}
+
+/// Does two works by turns, after once that is not counted.
+fn medians(
+    repeats: usize,
+    mut original: impl FnMut() -> Duration,
+    mut library: impl FnMut() -> Duration,
+) -> Medians {
+    original();
+    library();
+    let (original, library) = (0..repeats).map(|_| (original(), library())).unzip();
     (median(original), median(library))
 }
 
-/// One run of the original; neither the copy of its image nor the end of its result is timed.
-fn time_original(case: &Case) -> Duration {
-    let runner = original::runner(case);
+/// How long a work takes; the release of its result is not timed.
+fn time<T>(work: impl FnOnce() -> T) -> Duration {
     let start = Instant::now();
-    let result = black_box(runner.run());
+    let result = black_box(work());
     let time = start.elapsed();
     drop(result);
     time
-}
-
-/// One run of the library, in buffers as the run before left them.
-fn time_library(case: &Case, buffers: &mut Buffers) -> Duration {
-    let call = Call::of(case);
-    let start = Instant::now();
-    black_box(call::run(&call, buffers));
-    start.elapsed()
 }
 
 fn median(mut times: Vec<Duration>) -> f64 {

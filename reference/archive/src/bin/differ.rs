@@ -2,19 +2,23 @@
 
 use std::process::ExitCode;
 
-use archive::differ::{large, refused, small, workers, Difference};
+use archive::differ::{damaged, large, refused, small, workers, Difference};
 use judge::options::Options;
 
 const HELP: &str = "\
-differ [--small N] [--large N] [--refused N] [--seed S]
+differ [--small N] [--large N] [--refused N] [--damaged N] [--seed S]
 
-Compares the proved library with the original on N small images (1000000), N images of 10,000 to
-65,000 pixels (1000) and N calls that must be refused (100000), under seed S (1): the answer and
-every number of every buffer, also what lies beyond the result. Half of the small images are the
-enumeration of tiny ones from its beginning, the others are random.
+Compares the proved library with the original on N small images (1000000) and N images of 10,000 to
+65,000 pixels (1000): the run, the run with painting, and painting, rows and storing from what it
+left. Then N runs that must be refused (100000), without and with painting, and N sheets damaged
+after a run (100000), which are painted and stored as the rules say, or refused. Compared are the
+answer, every number of every buffer and every byte, also what must stay as it was.
 
-Progress goes to standard error. At the first difference the call is printed in the judge's form of
-a case, with the lengths lent and what differs.
+A case depends on its kind, its index and the seed S (1), a small one also on N: half of the small
+images are the enumeration of tiny ones from its beginning, the others are random.
+
+Progress goes to standard error. At the first difference the run is printed in the judge's form of a
+case, with the lengths lent, the damage done and what differs.
 Exit status: 0 no difference, 1 a difference was found, 2 bad usage.
 ";
 
@@ -27,6 +31,7 @@ struct Counts {
     small: u64,
     large: u64,
     refused: u64,
+    damaged: u64,
 }
 
 fn main() -> ExitCode {
@@ -36,7 +41,7 @@ fn main() -> ExitCode {
         return ExitCode::SUCCESS;
     }
     match parse(&args) {
-        Ok((counts, seed)) => report(counts, compare(counts, seed)),
+        Ok((counts, seed)) => report(counts, seed, compare(counts, seed)),
         Err(message) => {
             eprintln!("differ: {message}");
             ExitCode::from(2)
@@ -45,12 +50,13 @@ fn main() -> ExitCode {
 }
 
 fn parse(args: &[String]) -> Result<(Counts, u64), String> {
-    let names = ["--small", "--large", "--refused", "--seed"];
+    let names = ["--small", "--large", "--refused", "--damaged", "--seed"];
     let options = Options::parse(args, &names, &[])?.at_most(0)?;
     let counts = Counts {
         small: options.number("--small", 1_000_000)?,
         large: options.number("--large", 1_000)?,
         refused: options.number("--refused", 100_000)?,
+        damaged: options.number("--damaged", 100_000)?,
     };
     Ok((counts, options.number("--seed", 1)?))
 }
@@ -63,37 +69,47 @@ struct Found {
 }
 
 fn compare(counts: Counts, seed: u64) -> Result<(), Found> {
-    let found = |sort| {
-        move |(index, difference)| Found {
-            sort,
-            index,
-            difference,
-        }
-    };
     let requests = refused::Requests::new(seed);
-    workers::compare_all("small", counts.small, MANY, |index| {
+    compare_sort("small", counts.small, MANY, |index| {
         small::compare(seed, index, counts.small)
-    })
-    .map_err(found("small"))?;
-    workers::compare_all("large", counts.large, 1, |index| {
+    })?;
+    compare_sort("large", counts.large, 1, |index| {
         large::compare(seed, index)
-    })
-    .map_err(found("large"))?;
-    workers::compare_all("refused", counts.refused, MANY, |index| {
+    })?;
+    compare_sort("refused", counts.refused, MANY, |index| {
         requests.compare(index)
+    })?;
+    compare_sort("damaged", counts.damaged, MANY, |index| {
+        damaged::compare(seed, index)
     })
-    .map_err(found("refused"))
 }
 
-fn report(counts: Counts, result: Result<(), Found>) -> ExitCode {
+/// Compares all cases of one sort, `stride` of them at a time.
+fn compare_sort(
+    sort: &'static str,
+    count: u64,
+    stride: u64,
+    compare: impl Fn(u64) -> Result<(), Difference> + Sync,
+) -> Result<(), Found> {
+    workers::compare_all(sort, count, stride, compare).map_err(|(index, difference)| Found {
+        sort,
+        index,
+        difference,
+    })
+}
+
+fn report(counts: Counts, seed: u64, result: Result<(), Found>) -> ExitCode {
     let Counts {
         small,
         large,
         refused,
+        damaged,
     } = counts;
     match result {
         Ok(()) => {
-            println!("{small} small, {large} large, {refused} refused: 0 differ");
+            println!(
+                "{small} small, {large} large, {refused} refused, {damaged} damaged: 0 differ"
+            );
             ExitCode::SUCCESS
         }
         Err(Found {
@@ -102,7 +118,7 @@ fn report(counts: Counts, result: Result<(), Found>) -> ExitCode {
             difference,
         }) => {
             println!("{difference}");
-            println!("the {sort} case {index} differs; not compared further");
+            println!("the {sort} case {index} under seed {seed} differs; not compared further");
             ExitCode::from(1)
         }
     }

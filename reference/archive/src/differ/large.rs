@@ -1,6 +1,6 @@
 //! Images of 10,000 to 65,000 pixels.
 
-use judge::case::{Case, KeyingAction, Settings, HIERARCHICAL_MAX, MAX_PIXELS, NO_KEY};
+use judge::case::{Case, KeyingAction, Settings, HIERARCHICAL_MAX as MAX, MAX_PIXELS, NO_KEY};
 use judge::rng::Rng;
 
 use super::{lending, Difference};
@@ -65,17 +65,7 @@ fn settings(rng: &mut Rng) -> Settings {
     Settings {
         is_same_color_a: rng.pick(&[4, 4, 4, 0, 2, 3, 5, 6]),
         is_same_color_b: rng.pick(&[1, 1, 1, 0, 2, 4, 16, -1]),
-        hierarchical: rng.pick(&[
-            HIERARCHICAL_MAX,
-            HIERARCHICAL_MAX,
-            HIERARCHICAL_MAX,
-            HIERARCHICAL_MAX,
-            HIERARCHICAL_MAX - 1,
-            0,
-            1,
-            30,
-            1_000,
-        ]),
+        hierarchical: rng.pick(&[MAX, MAX, MAX, MAX, MAX - 1, 0, 1, 30, 1_000]),
         good_min_area: rng.pick(&[16, 16, 0, 1, 4, 100]),
         good_max_area: rng.pick(&[65_536, 65_536, 65_536, 1_000, 50]),
         hollow_neighbours: rng.pick(&[1, 1, 0, 2, 4]),

@@ -35,6 +35,11 @@ pub fn any_content(rng: &mut Rng, lengths: Lengths) -> Buffers {
     }
 }
 
+/// Bytes of which no two in a row are equal.
+pub fn bytes(length: usize) -> Vec<u8> {
+    (0..length).map(|place| (37 * place + 11) as u8).collect()
+}
+
 /// The call that a case asks for, with any of the numbers that mean its action.
 pub fn call<'a>(rng: &mut Rng, case: &'a Case) -> Call<'a> {
     let action = match case.settings.keying_action {

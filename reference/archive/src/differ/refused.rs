@@ -68,17 +68,21 @@ struct Request {
     height: u32,
     bytes: usize,
     lent: Lengths,
+    /// The length of the picture.
+    picture: usize,
 }
 
 impl Request {
-    /// A request whose bytes and buffers fit `pixels`.
+    /// A request whose bytes, buffers and picture fit `pixels`.
     fn fitting((width, height): (u32, u32), pixels: u32) -> Self {
+        let bytes = CHANNELS * pixels as usize;
         Self {
             settings: Settings::default(),
             width,
             height,
-            bytes: CHANNELS * pixels as usize,
+            bytes,
             lent: Lengths::exact(pixels as usize),
+            picture: bytes,
         }
     }
 
@@ -99,6 +103,12 @@ impl Request {
         self
     }
 
+    /// The request with another length of the picture.
+    fn painting(mut self, picture: usize) -> Self {
+        self.picture = picture;
+        self
+    }
+
     /// The request with another length for one of the five buffers.
     fn lending(mut self, buffer: usize, length: impl Fn(usize) -> usize) -> Self {
         let place = &mut *self.lent.each_mut()[buffer];
@@ -106,15 +116,17 @@ impl Request {
         self
     }
 
-    /// The number that must be answered.
-    fn number(&self) -> u32 {
-        refusals::number(
-            self.settings.is_same_color_a,
-            self.width,
-            self.height,
-            self.bytes,
-            self.lent,
-        )
+    /// The numbers that must be answered, without and with painting.
+    fn numbers(&self) -> [u32; 2] {
+        let (shift, size) = (self.settings.is_same_color_a, (self.width, self.height));
+        [
+            refusals::run(shift, size, self.bytes, self.lent),
+            refusals::run_and_paint(shift, size, self.bytes, self.lent, self.picture),
+        ]
+    }
+
+    fn is_refused(&self) -> bool {
+        self.numbers()[1] != 0
     }
 }
 
@@ -146,7 +158,8 @@ impl Requests {
             height: request.height,
             image: &image,
         };
-        super::refused(&call, &lent, request.number())
+        let picture = lending::bytes(request.picture);
+        super::refused(&call, &lent, &picture, request.numbers())
     }
 
     fn request(&self, rng: &mut Rng, index: u64) -> Request {
@@ -167,19 +180,19 @@ fn edges_of_size() -> Vec<Request> {
     [&shifts[..], &empty, &above, &wrapped].concat()
 }
 
-/// Checks 4 and 5, on a small image and on one of the largest.
+/// Checks 4, 5 and 6, on small images and on the largest.
 fn edges_of_lengths() -> Vec<Request> {
     let mut requests = Vec::new();
     for size in [(1, 1), (2, 3), (250, 260), (65_000, 1)] {
         let sound = Request::sound(size);
         let (bytes, pixels) = (sound.bytes, sound.lent.labels);
-        for wrong in [0, pixels, 3 * pixels, bytes - 1, bytes + 1, bytes + 4] {
-            requests.push(sound.clone().sized(wrong));
-        }
+        let wrong = [0, pixels, 3 * pixels, bytes - 1, bytes + 1, bytes + 4];
+        requests.extend(wrong.map(|bytes| sound.clone().sized(bytes)));
         for buffer in 0..5 {
             requests.push(sound.clone().lending(buffer, |length| length - 1));
             requests.push(sound.clone().lending(buffer, |_| 0));
         }
+        requests.extend(wrong.map(|bytes| sound.clone().painting(bytes)));
     }
     requests
 }
@@ -189,16 +202,17 @@ fn faults_at_once() -> Vec<Request> {
     let mut requests = Vec::new();
     for size in [(2, 3), (0, 3), (65_536, 65_536)] {
         for shift in [4, 8] {
-            for bytes in [24, 23] {
+            for (bytes, picture) in [(24, 24), (23, 24), (24, 23), (23, 23)] {
+                let request = Request::fitting(size, 6).shifted(shift).sized(bytes);
+                let request = request.painting(picture);
                 for buffer in 0..5 {
-                    let request = Request::fitting(size, 6).shifted(shift).sized(bytes);
                     requests.push(request.clone().lending(buffer, |length| length - 1));
-                    requests.push(request);
                 }
+                requests.push(request);
             }
         }
     }
-    requests.retain(|request| request.number() != 0);
+    requests.retain(Request::is_refused);
     requests
 }
 
@@ -208,13 +222,12 @@ fn random(rng: &mut Rng) -> Request {
         let size = (rng.range(1, 12), rng.range(1, 12));
         let mut request = Request::sound(size);
         request.settings = cases::mixed(rng.bits(), 0).settings;
-        let faults = [Fault::Shift, Fault::Size, Fault::Bytes, Fault::Lengths];
-        for fault in faults {
+        for fault in Fault::ALL {
             if rng.percent(40) {
                 fault.put(rng, &mut request);
             }
         }
-        if request.number() != 0 {
+        if request.is_refused() {
             return request;
         }
     }
@@ -227,9 +240,18 @@ enum Fault {
     Size,
     Bytes,
     Lengths,
+    Picture,
 }
 
 impl Fault {
+    const ALL: [Fault; 5] = [
+        Fault::Shift,
+        Fault::Size,
+        Fault::Bytes,
+        Fault::Lengths,
+        Fault::Picture,
+    ];
+
     /// Puts a random fault of this kind in.
     fn put(self, rng: &mut Rng, request: &mut Request) {
         match self {
@@ -243,6 +265,7 @@ impl Fault {
                     }
                 }
             }
+            Fault::Picture => request.picture = near(rng, request.picture),
         }
     }
 }
@@ -256,28 +279,37 @@ fn bad_shift(rng: &mut Rng) -> i32 {
 }
 
 /// A number that is near `length`, most often another one.
-fn near(rng: &mut Rng, length: usize) -> usize {
+pub fn near(rng: &mut Rng, length: usize) -> usize {
     let below = rng.pick(&[0, length / 4, length - length / 4, length.saturating_sub(1)]);
     rng.pick(&[below, length + 1, length + 4, 2 * length])
 }
 
 /// Makes a side 0, or the image too large; the lengths still fit the size before, mostly.
 fn put_bad_size(rng: &mut Rng, request: &mut Request) {
-    let pixels = request.width * request.height;
+    let size = bad_size(rng, (request.width, request.height));
+    (request.width, request.height) = size;
+    let product = u64::from(size.0) * u64::from(size.1);
+    if product < 2 * MAX_PIXELS && rng.percent(5) {
+        let fitting = Request::fitting(size, product as u32);
+        *request = Request {
+            settings: request.settings.clone(),
+            ..fitting
+        };
+    }
+}
+
+/// A size of which a side is 0, or that is too large, made of a small one.
+pub fn bad_size(rng: &mut Rng, (width, height): (u32, u32)) -> (u32, u32) {
     let any = rng.bits() as u32;
-    let (width, height) = match rng.below(4) {
-        0 => rng.pick(&[(0, any), (any, 0), (0, request.height), (request.width, 0)]),
+    match rng.below(4) {
+        0 => rng.pick(&[(0, any), (any, 0), (0, height), (width, 0)]),
         1 => just_above(rng),
         2 => (any, rng.bits() as u32),
         // Odd, so that some height gives the same product in 32 bits.
-        _ => (any | 1, pixels.wrapping_mul(inverse(any | 1))),
-    };
-    (request.width, request.height) = (width, height);
-    let product = u64::from(width) * u64::from(height);
-    if product < 2 * MAX_PIXELS && rng.percent(5) {
-        let pixels = product as usize;
-        request.bytes = CHANNELS * pixels;
-        request.lent = Lengths::exact(pixels);
+        _ => {
+            let product = width.wrapping_mul(height);
+            (any | 1, product.wrapping_mul(inverse(any | 1)))
+        }
     }
 }
 
@@ -300,29 +332,46 @@ fn inverse(odd: u32) -> u32 {
 mod tests {
     use super::*;
 
+    /// The numbers with painting.
+    fn numbers(requests: &[Request]) -> Vec<u32> {
+        requests
+            .iter()
+            .map(|request| request.numbers()[1])
+            .collect()
+    }
+
     #[test]
     fn every_edge_is_refused_with_its_number() {
-        let numbers = |requests: &[Request]| -> Vec<u32> {
-            requests.iter().map(|request| request.number()).collect()
-        };
         let wanted = [vec![1; 13], vec![2; 6], vec![3; 13]].concat();
         assert_eq!(numbers(&edges_of_size()), wanted);
-        for of_one_size in edges_of_lengths().chunks(16) {
-            let wanted = [vec![4; 6], vec![5; 10]].concat();
+        for of_one_size in edges_of_lengths().chunks(22) {
+            let wanted = [vec![4; 6], vec![5; 10], vec![6; 6]].concat();
             assert_eq!(numbers(of_one_size), wanted);
         }
-        assert!(faults_at_once().iter().all(|request| request.number() > 0));
+        assert!(faults_at_once().iter().all(Request::is_refused));
+    }
+
+    #[test]
+    fn only_check_6_tells_painting_apart() {
+        for request in Requests::new(1).edges {
+            match request.numbers() {
+                [without, 6] => assert_eq!(without, 0),
+                [without, with] => assert_eq!(without, with),
+            }
+        }
     }
 
     #[test]
     fn random_requests_meet_every_check() {
-        let mut met = [0; 6];
-        for index in 0..1_000 {
-            let request = random(&mut Rng::for_case(1, index));
-            met[request.number() as usize] += 1;
+        let requests: Vec<Request> = (0..1_000)
+            .map(|index| random(&mut Rng::for_case(1, index)))
+            .collect();
+        let mut met = [0; 7];
+        for number in numbers(&requests) {
+            met[number as usize] += 1;
         }
         assert_eq!(met[0], 0);
-        assert!(met[1..].iter().all(|&times| times > 50), "{met:?}");
+        assert!(met[1..].iter().all(|&times| times > 25), "{met:?}");
     }
 
     #[test]

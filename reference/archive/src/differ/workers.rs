@@ -89,14 +89,11 @@ impl Shared<'_> {
 #[cfg(test)]
 mod tests {
     use super::*;
-    use crate::buffers::Lengths;
 
     fn difference() -> Difference {
         Difference {
+            call: String::new(),
             what: vec![],
-            line: String::new(),
-            action: 0,
-            lent: Lengths::exact(1),
         }
     }
 

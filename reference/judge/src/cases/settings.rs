@@ -1,7 +1,7 @@
 //! Random settings.
 
 use super::images::Palette;
-use crate::case::{KeyingAction, Settings, HIERARCHICAL_MAX, NO_KEY};
+use crate::case::{KeyingAction, Settings, HIERARCHICAL_MAX as MAX, NO_KEY};
 use crate::rng::Rng;
 
 /// Settings from the ranges in which small images show something.
@@ -9,20 +9,7 @@ pub fn common(rng: &mut Rng, palette: &Palette) -> Settings {
     Settings {
         is_same_color_a: rng.pick(&[4, 4, 4, 0, 0, 1, 2, 3, 5, 6, 7]),
         is_same_color_b: rng.pick(&[1, 1, 1, 0, 0, 2, 3, 8, 40, -1]),
-        hierarchical: rng.pick(&[
-            HIERARCHICAL_MAX,
-            HIERARCHICAL_MAX,
-            HIERARCHICAL_MAX,
-            HIERARCHICAL_MAX,
-            HIERARCHICAL_MAX - 1,
-            0,
-            1,
-            2,
-            3,
-            5,
-            9,
-            20,
-        ]),
+        hierarchical: rng.pick(&[MAX, MAX, MAX, MAX, MAX - 1, 0, 1, 2, 3, 5, 9, 20]),
         good_min_area: rng.pick(&[0, 0, 0, 1, 1, 2, 4, 7, 16]),
         good_max_area: rng.pick(&[65_536, 65_536, 65_536, 2, 4, 9, 20]),
         hollow_neighbours: rng.pick(&[1, 1, 1, 0, 2, 3]),
@@ -42,7 +29,7 @@ pub fn deepening(rng: &mut Rng, palette: &Palette) -> Settings {
         is_same_color_a: rng.pick(&[4, 4, 0, 3]),
         is_same_color_b: rng.pick(&[1, 1, 0, 2]),
         hierarchical: if rng.percent(85) {
-            HIERARCHICAL_MAX
+            MAX
         } else {
             rng.range(1, 30)
         },

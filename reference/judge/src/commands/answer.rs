@@ -5,17 +5,9 @@ use std::io::{self, BufRead, Write};
 use judge::options::Options;
 use judge::{original, text};
 
-use super::Command;
 use crate::Failure;
 
-pub const COMMAND: Command = Command {
-    name: "answer",
-    summary: "prints the original's answers to the cases on standard input",
-    help,
-    run,
-};
-
-fn help() -> String {
+pub fn help() -> String {
     format!(
         "judge answer [--json] < CASES\n\n\
          Reads one case a line and prints the original's answer to each. Fields, by spaces:\n\n  \
@@ -29,7 +21,7 @@ fn help() -> String {
     )
 }
 
-fn run(args: &[String], out: &mut dyn Write) -> Result<(), Failure> {
+pub fn run(args: &[String], out: &mut dyn Write) -> Result<(), Failure> {
     let options = Options::parse(args, &[], &["--json"])?.at_most(0)?;
     for (i, line) in io::stdin().lock().lines().enumerate() {
         let at = |message: String| format!("line {}: {message}", i + 1);

@@ -4,28 +4,17 @@ use std::io::Write;
 
 use judge::text;
 
-use super::Command;
-use crate::selection::{describe_kinds, Selection, USAGE};
+use crate::selection::{self, Selection};
 use crate::Failure;
 
 const COUNT: u64 = 10;
 
-pub const COMMAND: Command = Command {
-    name: "cases",
-    summary: "prints generated cases, in the form that `answer` reads",
-    help,
-    run,
-};
-
-fn help() -> String {
-    format!(
-        "judge cases {USAGE}\n\n\
-         Prints N cases ({COUNT}) of one kind, from index I (0) on.\n\n{}",
-        describe_kinds()
-    )
+pub fn help() -> String {
+    let says = format!("Prints N cases ({COUNT}) of one kind, from index I (0) on.");
+    selection::help("cases", &says)
 }
 
-fn run(args: &[String], out: &mut dyn Write) -> Result<(), Failure> {
+pub fn run(args: &[String], out: &mut dyn Write) -> Result<(), Failure> {
     let selection = Selection::parse(args, COUNT, false)?;
     for index in selection.indices.clone() {
         writeln!(out, "{}", text::format_case(&selection.case(index)))?;

@@ -5,30 +5,21 @@ use std::io::Write;
 use judge::compare::compare;
 use judge::text;
 
-use super::Command;
-use crate::selection::{describe_kinds, Selection, USAGE};
+use crate::selection::{self, Selection};
 use crate::Failure;
 
 const COUNT: u64 = 100_000;
 
-pub const COMMAND: Command = Command {
-    name: "compare",
-    summary: "compares the model with the original on many cases",
-    help,
-    run,
-};
-
-fn help() -> String {
-    format!(
-        "judge compare {USAGE}\n\n\
-         Compares the model with the original on N cases ({COUNT}, or the whole of an enumeration):\n\
+pub fn help() -> String {
+    let says = format!(
+        "Compares the model with the original on N cases ({COUNT}, or the whole of an enumeration):\n\
          the whole answer, and the labels with which stage 1 ends. The status is 1 where they\n\
-         differ; the first such case is printed.\n\n{}",
-        describe_kinds()
-    )
+         differ; the first such case is printed."
+    );
+    selection::help("compare", &says)
 }
 
-fn run(args: &[String], out: &mut dyn Write) -> Result<(), Failure> {
+pub fn run(args: &[String], out: &mut dyn Write) -> Result<(), Failure> {
     let selection = Selection::parse(args, COUNT, true)?;
     let found = compare(selection.indices.clone(), |index| selection.case(index));
     let name = selection.name();

@@ -6,24 +6,16 @@ use std::io::Write;
 use judge::options::Options;
 use judge::record;
 
-use super::Command;
 use crate::Failure;
 
-pub const COMMAND: Command = Command {
-    name: "record",
-    summary: "writes the recorded answers",
-    help,
-    run,
-};
-
-fn help() -> String {
+pub fn help() -> String {
     "judge record OUT\n\n\
      Writes cases of every kind with the original's answers to the file OUT, byte for byte the\n\
      same each time. docs/REFERENCE.md tells the format.\n"
         .to_string()
 }
 
-fn run(args: &[String], out: &mut dyn Write) -> Result<(), Failure> {
+pub fn run(args: &[String], out: &mut dyn Write) -> Result<(), Failure> {
     let options = Options::parse(args, &[], &[])?.at_most(1)?;
     let [path] = options.positional.as_slice() else {
         return Err("record needs the name of the file to write"

@@ -7,19 +7,11 @@ use judge::model::Reading;
 use judge::options::Options;
 use judge::{record, tell};
 
-use super::Command;
 use crate::Failure;
 
 const DEFAULT_PATH: &str = "answers.bin";
 
-pub const COMMAND: Command = Command {
-    name: "tell",
-    summary: "shows which wrong readings the recorded answers tell apart",
-    help,
-    run,
-};
-
-fn help() -> String {
+pub fn help() -> String {
     format!(
         "judge tell [FILE]\n\n\
          Checks that the model gives every answer recorded in FILE ({DEFAULT_PATH}). Then counts,\n\
@@ -28,7 +20,7 @@ fn help() -> String {
     )
 }
 
-fn run(args: &[String], out: &mut dyn Write) -> Result<(), Failure> {
+pub fn run(args: &[String], out: &mut dyn Write) -> Result<(), Failure> {
     let options = Options::parse(args, &[], &[])?.at_most(1)?;
     let path = options
         .positional

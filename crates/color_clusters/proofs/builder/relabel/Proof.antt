@@ -6,7 +6,7 @@ use lib.ListN.{length, getD, length-set}
 use Rattle.rules.specs.State as rules
 use Rattle.rules.specs.Layout.{walk}
 use Rattle.rules.specs.Paint.{reads}
-use Rattle.color_clusters.proofs.Walks.{Step, step, walk-none}
+use Rattle.rules.proofs.Walks.{Step, step, walk-none}
 use Rattle.color_clusters.proofs.builder.relabel.Statement.{statement}
 use Rattle.color_clusters.proofs.builder.relabel.Tie as tie
 

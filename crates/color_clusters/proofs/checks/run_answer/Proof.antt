@@ -10,7 +10,7 @@ use mir.Syntax.{w32}
 use mir.Val.{SFits, toZ, ofZ}
 use mir.ValLaws.{toZ-ofZ}
 use Rattle.rules.specs.Refusals.{badShift, limit, firstFailed, sizeChecks, runAnswer}
-use Rattle.color_clusters.proofs.Answers.{sized, sized-small}
+use Rattle.rules.proofs.Accepted.{sized, sized-small}
 use Rattle.color_clusters.proofs.checks.run_answer.Statement.{statement}
 use Rattle.color_clusters.proofs.checks.run_answer.Tie as tie
 
@@ -38,26 +38,26 @@ small : (c : tie.Else2) → (let a = c .before .before .before .before .before .
 small c = let a = c .before .before .before .before .before .args in sized-small (a .w) (a .h) (sized-zero c)
 
 mul-if3 : tie.Need-mul-if3
-mul-if3 c = omega (arith, c .product .ensures, small (c .before))
+mul-if3 c = omega (arith, c .area .ensures, small (c .before))
 
 returns-3 : tie.Need-returns-3
 unfolding runAnswer
-returns-3 c = let e = c .before .before in rw (passed-shift (e .before .before), sized, sized-zero e, ← c .before .product .ensures, ne-eqb _ _ (c .if3 .taken))
+returns-3 c = let e = c .before .before in rw (passed-shift (e .before .before), sized, sized-zero e, ← c .before .area .ensures, ne-eqb _ _ (c .if3 .taken))
 
 short-requires : tie.Need-short-requires
-short-requires c κs = omega (arith, c .before .product .ensures, small (c .before .before))
+short-requires c κs = omega (arith, c .before .area .ensures, small (c .before .before))
 
 returns-4 : tie.Need-returns-4
 unfolding runAnswer
 returns-4 c =
     let e = c .before .before .before .before in
-    rw (passed-shift (e .before .before), sized, sized-zero e, ← c .before .before .before .product .ensures, eq-eqb _ _ (c .before .before .if3 .left), sym (c .before .short .ensures) ∙ c .if4 .taken)
+    rw (passed-shift (e .before .before), sized, sized-zero e, ← c .before .before .before .area .ensures, eq-eqb _ _ (c .before .before .if3 .left), sym (c .before .short .ensures) ∙ c .if4 .taken)
 
 returns-5 : tie.Need-returns-5
 unfolding runAnswer
 returns-5 c =
     let e = c .before .before .before .before in
-    rw (passed-shift (e .before .before), sized, sized-zero e, ← c .before .before .before .product .ensures, eq-eqb _ _ (c .before .before .if3 .left), sym (c .before .short .ensures) ∙ c .if4 .left)
+    rw (passed-shift (e .before .before), sized, sized-zero e, ← c .before .before .before .area .ensures, eq-eqb _ _ (c .before .before .if3 .left), sym (c .before .short .ensures) ∙ c .if4 .left)
 
 pub run-answer-spec : {M : Type 1} → statement M
 run-answer-spec = tie.close (tie.spec (search needs) returns (search needs) returns-2 (search needs) mul-if3 returns-3 short-requires returns-4 returns-5)

@@ -18,7 +18,7 @@ use Rattle.rules.proofs.Connected.{AllSome}
 use Rattle.rules.proofs.Labels.{sides-fit}
 use Rattle.color_clusters.specs.Slots.{sumAt}
 use Rattle.color_clusters.specs.Neighbours.{placeLabel, diffFrom, diffAt, nearestOf, Scan, notedFour, Notable, Scannable, listAt, Found}
-use Rattle.color_clusters.proofs.Walks.{Step, step, walk-none}
+use Rattle.rules.proofs.Walks.{Step, step, walk-none}
 use Rattle.color_clusters.proofs.Nearest.{Holds, each-length, each-count, each-holds}
 use Rattle.color_clusters.proofs.cluster.neighbours.Statement.{statement}
 use Rattle.color_clusters.proofs.cluster.neighbours.Tie as tie

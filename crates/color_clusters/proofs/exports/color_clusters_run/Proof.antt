@@ -1,5 +1,4 @@
-use mathlib.Core.Path.{_≡_, refl, sym, ap, _∙_}
-use lib.IntN.{ℤ}
+use mathlib.Core.Path.{_≡_}
 use borrow.Author.Needs.{needs}
 use mir.Syntax.{w32}
 use mir.Val.{toZ, ofZ}
@@ -10,8 +9,9 @@ use Rattle.color_clusters.proofs.exports.color_clusters_run.Tie as tie
 -- the settings that were handed on are those that came
 returns : tie.Need-returns
 returns c =
-    let s = c .before .before .before .before .before .before .before .before .before .before .before .before .before .before .before .before .before .before .before .before .before .before .before in
-    rw (toZ-ofZ w32 _ (s .fits .is-same-color-a), toZ-ofZ w32 _ (s .fits .is-same-color-b), toZ-ofZ w32 _ (s .fits .deepen-diff), c .before .before .before .before .before .before .before .before .before .before .before .before .before .before .before .before .action-of .ensures) at (c .before .before .before .before .before .before .before .before .before .before .run .ensures)
+    let t = c .before .before .before .before .before .before .before .before .before .before .before .before .before .before .before .before in
+    let f = t .before .before .before .before .before .before .before .fits in
+    rw (t .config .ensures, toZ-ofZ w32 _ (f .is-same-color-a), toZ-ofZ w32 _ (f .is-same-color-b), toZ-ofZ w32 _ (f .deepen-diff)) at (c .before .before .before .before .before .before .before .before .before .before .run .ensures)
 
 pub color-clusters-run-spec : {M : Type 1} → statement M
 color-clusters-run-spec = tie.close (tie.spec (search needs) (search needs) (search needs) (search needs) (search needs) (search needs) (search needs) returns)

@@ -9,7 +9,7 @@ use Rattle.rules.specs.Layout.{walk}
 use Rattle.rules.specs.Paint.{reads}
 use Rattle.color_clusters.specs.Types.{configOf}
 use Rattle.color_clusters.specs.Interior.{someInside}
-use Rattle.color_clusters.proofs.Walks.{Step, step, walk-none}
+use Rattle.rules.proofs.Walks.{Step, step, walk-none}
 use Rattle.color_clusters.proofs.geometry.has_interior.Statement.{statement}
 use Rattle.color_clusters.proofs.geometry.has_interior.Tie as tie
 

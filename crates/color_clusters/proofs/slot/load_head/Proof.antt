@@ -1,7 +1,7 @@
 use mathlib.Core.Path.{refl}
 use borrow.Author.Needs.{needs}
 use Rattle.color_clusters.specs.Slots.{headAt}
-use Rattle.color_clusters.proofs.Slots.{slot-fits, slot-offset, slot-in}
+use Rattle.container.proofs.Slots.{slot-fits, slot-offset, slot-in}
 use Rattle.color_clusters.proofs.slot.load_head.Statement.{statement}
 use Rattle.color_clusters.proofs.slot.load_head.Tie as tie
 

@@ -1,7 +1,7 @@
 use mathlib.Core.Path.{refl}
 use borrow.Author.Needs.{needs}
 use Rattle.color_clusters.specs.Slots.{residueAt}
-use Rattle.color_clusters.proofs.Slots.{slot-fits, slot-offset, slot-in}
+use Rattle.container.proofs.Slots.{slot-fits, slot-offset, slot-in}
 use Rattle.color_clusters.proofs.slot.load_residue.Statement.{statement}
 use Rattle.color_clusters.proofs.slot.load_residue.Tie as tie
 

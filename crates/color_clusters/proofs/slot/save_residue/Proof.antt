@@ -2,7 +2,7 @@ use mathlib.Core.Path.{refl}
 use lib.ListN.{length-set}
 use borrow.Author.Needs.{needs}
 use Rattle.color_clusters.specs.Slots.{savedResidue}
-use Rattle.color_clusters.proofs.Slots.{slot-fits, slot-offset, slot-in}
+use Rattle.container.proofs.Slots.{slot-fits, slot-offset, slot-in}
 use Rattle.color_clusters.proofs.slot.save_residue.Statement.{statement}
 use Rattle.color_clusters.proofs.slot.save_residue.Tie as tie
 

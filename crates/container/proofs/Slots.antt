@@ -1,0 +1,17 @@
+-- Where the numbers of a slot stand in the table. Assumes nothing.
+use Prim.Native.Nat.{ℕ, _+_, _*_, _≤_, _<_}
+use native.Mathlib.Omega.{arith}
+use mir.Syntax.{w32, w64}
+use mir.Val.{Fits}
+use lib.Dec.{T, ltb, lit<}
+
+-- the index of number j of slot k fits, and so does its offset in bytes
+pub slot-fits : {k : ℕ} → Fits w32 k → (j : ℕ) → T (ltb j 21) → Fits w64 (21 * k + j)
+slot-fits f j h = omega (arith, lit< {m = j} {n = 21} h)
+
+pub slot-offset : {k : ℕ} → Fits w32 k → (j : ℕ) → T (ltb j 21) → Fits w64 ((21 * k + j) * 4)
+slot-offset f j h = omega (arith, lit< {m = j} {n = 21} h)
+
+-- it is in the table
+pub slot-in : (k : ℕ) {n : ℕ} → 21 * k + 21 ≤ n → (j : ℕ) → T (ltb j 21) → 21 * k + j < n
+slot-in k l j h = omega (arith, lit< {m = j} {n = 21} h)

@@ -1,0 +1,41 @@
+use mathlib.Core.Path.{_≡_, refl, sym, ap, _∙_}
+use mathlib.Core.Bool.{Bool, true, false, _||_}
+use Prim.Native.Nat.{ℕ, _*_, _≤_}
+use native.Mathlib.Omega.{arith}
+use borrow.Author.Needs.{needs}
+use borrow.Author.Tests.{eq-eqb, ne-eqb}
+use Rattle.rules.specs.Refusals.{limit, firstFailed, sizeChecks}
+use Rattle.rules.proofs.Accepted.{sized, sized-small}
+use Rattle.container.proofs.checks.lent_answer.Statement.{statement}
+use Rattle.container.proofs.checks.lent_answer.Tie as tie
+
+returns : tie.Need-returns
+returns c = rw (sized, ← c .before .size-answer .ensures, ne-eqb _ 0 (c .if1 .taken))
+
+-- the size passes
+sized-zero : (c : tie.Else1) → (let a = c .before .before .args in firstFailed (sizeChecks (a .w) (a .h)) ≡ 0)
+sized-zero c = sym (c .before .size-answer .ensures) ∙ c .if1 .left
+
+small : (c : tie.Else1) → (let a = c .before .before .args in a .w * a .h ≤ limit)
+small c = sized-small _ _ (sized-zero c)
+
+short-requires : tie.Need-short-requires
+short-requires c κs = omega (arith, c .area .ensures, small (c .before))
+
+-- the labels are looked at first
+labels-first : (a b c d e : Bool) → a || (b || c || d || e) ≡ a || b || c || d || e
+labels-first true b c d e = refl
+labels-first false b c d e = refl
+
+returns-2 : tie.Need-returns-2
+returns-2 c =
+    let s = c .before .before in
+    rw (sized, sized-zero (s .before), ← s .area .ensures, ← labels-first, ← c .before .short .ensures, c .if2 .taken)
+
+returns-3 : tie.Need-returns-3
+returns-3 c =
+    let s = c .before .before in
+    rw (sized, sized-zero (s .before), ← s .area .ensures, ← labels-first, ← c .before .short .ensures, c .if2 .left)
+
+pub lent-answer-spec : {M : Type 1} → statement M
+lent-answer-spec = tie.close (tie.spec (search needs) returns (search needs) short-requires returns-2 returns-3)

@@ -1,0 +1,33 @@
+-- H3 of document 01 as demand 3 reads it: from the buffers that the call leaves. Computed.
+use mathlib.Core.Path.{_≡_, refl}
+use mathlib.Core.List.{[], _∷_, _++_, map}
+use lib.ListN.{replicate}
+use Rattle.rules.specs.Color.{zeroSum}
+use Rattle.rules.specs.Paint.{pixelsOf, fiveFrom}
+use Rattle.rules.specs.Calls.{Ran, runCall}
+use Rattle.rules.specs.Demand3.{View, bufferView}
+use Rattle.rules.specs.Worked.{B, W, small, all, total}
+
+-- lent more than it asks for, and nines
+abbrev ran : Ran
+ran = runCall (small all 64) 2 1 (B ++ W) (record { labels = replicate 3 9; links = replicate 3 9; table = replicate 84 9; outputs = replicate 5 9; work = replicate 25 9 })
+
+abbrev view : View
+view = bufferView (ran .n) (ran .buffers .labels) (ran .buffers .links) (ran .buffers .table)
+
+pub H3-labels : map (view .label) (0 ∷ 1 ∷ []) ≡ 2 ∷ 2 ∷ []
+unfolding runCall
+H3-labels = refl
+
+-- of clusters 1 and 2, and of slot 3, which the run did not write
+pub H3-lists : map (view .pixels) (1 ∷ 2 ∷ 3 ∷ []) ≡ (0 ∷ []) ∷ (1 ∷ 0 ∷ []) ∷ [] ∷ []
+unfolding runCall pixelsOf
+H3-lists = refl
+
+pub H3-sums : map (view .sum) (1 ∷ 2 ∷ 3 ∷ []) ≡ total 0 0 0 255 1 ∷ total 255 255 255 510 2 ∷ zeroSum ∷ []
+unfolding runCall fiveFrom
+H3-sums = refl
+
+pub H3-residues : map (view .residue) (1 ∷ 2 ∷ 3 ∷ []) ≡ total 0 0 0 255 1 ∷ total 255 255 255 255 1 ∷ zeroSum ∷ []
+unfolding runCall fiveFrom
+H3-residues = refl
