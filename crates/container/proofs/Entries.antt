@@ -1,5 +1,5 @@
 -- The entries that painting goes through from last to first, and what an entry that passes has shown.
-use mathlib.Core.Path.{_≡_, refl, subst}
+use mathlib.Core.Path.{_≡_, refl, sym, _∙_, subst}
 use mathlib.Core.Bool.{Bool, true, false, not}
 use mathlib.Core.List.{List}
 use Prim.Native.Nat.{ℕ, zero, suc, _-_, _≤_, _<_}
@@ -53,6 +53,14 @@ module _ (size n : ℕ) (links table outputs : List ℕ) where
       go true x y f (yes q) = rw q (eqb-true _ 0 x)
       go true x y f (no d) = f y i (omega arith)
       go false x y f q = absurd (eqb-false _ 0 x y)
+
+  -- and so do all but the last
+  pub entries-front : (m : ℕ) → 0 < m → entriesAnswer size n links table outputs m ≡ 0 → entriesAnswer size n links table outputs (m - 1) ≡ 0
+  entries-front m l e = go (eqb (lastAnswer m) 0) refl (sym (entries-turn m l) ∙ e)
+    where
+      go : (b : Bool) → eqb (lastAnswer m) 0 ≡ b → (if b then entriesAnswer size n links table outputs (m - 1) else lastAnswer m) ≡ 0 → entriesAnswer size n links table outputs (m - 1) ≡ 0
+      go true x y = y
+      go false x y = absurd (eqb-false _ 0 x y)
 
 -- slot k has passed checks 8, 9 and 10
 pub record Passed (size n : ℕ) (links table : List ℕ) (k : ℕ) : Type 0 where

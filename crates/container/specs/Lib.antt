@@ -1,2 +1,7 @@
 -- What the contracts of the library cite.
 pub mod Lent
+pub mod Leads
+pub mod Filled
+pub mod Covered
+pub mod Quick
+pub mod Stretch

@@ -1,8 +1,13 @@
 // The picture of the clusters, its rows, and the stored sheet, after container.rs. The buffers may be any, also such that no run made: every call
 // answers the number of the first check that failed, or 0, and a refused call changes nothing.
 mod checks;
+mod fill;
+mod halves;
 mod paint;
+mod picture;
+mod quick;
 mod stored;
+mod whole;
 
 ghost use mathlib.Core.Path.{_≡_};
 ghost use Prim.Native.Nat.{_*_};
@@ -60,7 +65,7 @@ pub fn to_color_image(
     if answer != 0 {
         return answer;
     }
-    paint::painting(w * h, links, table, outputs, picture, n, m)
+    picture::painting(w * h, links, table, outputs, picture, n, m)
 }
 
 // The answer of `row` on the same inputs: 0 where the row is given.

@@ -1,21 +1,23 @@
-// Painting: checks 8, 9 and 10 of every entry, and then the picture.
+// Painting: checks 8, 9 and 10 of every entry in their order, zeros, and the entries painted.
 ghost use mathlib.Core.Path.{_≡_};
 ghost use mathlib.Core.Bool.{true};
-ghost use Prim.Native.Nat.{_+_, _*_, _≤_, _<_};
+ghost use Prim.Native.Nat.{_+_, _-_, _*_, _/_, _≤_, _<_};
 ghost use lib.Dec.{T};
 ghost use lib.ListN.{length, getD, replicate};
-ghost use Rattle.rules.specs.Base.{each, timesBack};
-ghost use Rattle.rules.specs.Layout.{walk};
-ghost use Rattle.rules.specs.Picture.{paintPixel};
+ghost use Rattle.rules.specs.Base.{timesBack};
 ghost use Rattle.rules.specs.Paint as rules;
-ghost use Rattle.color.specs.Colors.{colorOf, sumOf};
+ghost use Rattle.color.specs.Colors.{sumOf};
 ghost use Rattle.container.specs.Lent.{CanPaint};
-use color::Color;
+ghost use Rattle.container.specs.Leads.{Leads};
+ghost use Rattle.container.specs.Stretch.{FirstHalf};
+use crate::halves::Cursors;
+use crate::halves::look;
+use crate::halves::paint_halves;
 use color::ColorOrNone;
 use color::ColorSum;
 
 // The residue of slot k.
-fn residue(table: &[u32], k: u32) -> ColorSum
+pub(crate) fn residue(table: &[u32], k: u32) -> ColorSum
     requires { ⌜ 21 * k + 21 ≤ length (now table) ⌝ }
     ensures { λ r. ⌜ sumOf r ≡ rules.residueOf (now (table .entry)) k ⌝ }
 {
@@ -30,7 +32,7 @@ fn residue(table: &[u32], k: u32) -> ColorSum
 }
 
 // Whether count pixels can be listed along the links from first: no link is 0 or above size.
-fn is_listed(links: &[u32], size: u32, first: u32, count: u32) -> bool
+pub(crate) fn is_listed(links: &[u32], size: u32, first: u32, count: u32) -> bool
     requires { ⌜ size ≤ length (now links) ⌝ }
     ensures { λ r. ⌜ r ≡ rules.reads size (now (links .entry)) first count ⌝ }
 {
@@ -69,7 +71,14 @@ fn entry_answer(links: &[u32], table: &[u32], size: u32, n: u32, k: u32) -> u32
 }
 
 // The first answer of the entries m - 1, .. 0 that is not 0.
-fn entries_answer(links: &[u32], table: &[u32], outputs: &[u32], size: u32, n: u32, m: u32) -> u32
+pub(crate) fn entries_answer(
+    links: &[u32],
+    table: &[u32],
+    outputs: &[u32],
+    size: u32,
+    n: u32,
+    m: u32,
+) -> u32
     requires { ⌜ (size ≤ length (now links)) × (21 * n ≤ length (now table)) × (m ≤ length (now outputs)) ⌝ }
     ensures { λ r. ⌜ r ≡ rules.entriesAnswer size n (now (links .entry)) (now (table .entry)) (now (outputs .entry)) m ⌝ }
 {
@@ -85,7 +94,7 @@ fn entries_answer(links: &[u32], table: &[u32], outputs: &[u32], size: u32, n: u
 }
 
 // Writes zeros over the whole picture.
-fn clear(picture: &mut [u8])
+pub(crate) fn clear(picture: &mut [u8])
     ensures { λ _. ⌜ now (picture .exit) ≡ replicate (length (now (picture .entry))) 0 ⌝ }
 {
     let mut i = 0;
@@ -95,48 +104,56 @@ fn clear(picture: &mut [u8])
     }
 }
 
-// Paints pixel p.
-fn paint_pixel(picture: &mut [u8], p: usize, c: Color)
-    requires { ⌜ 4 * p + 4 ≤ length (now picture) ⌝ }
-    ensures { λ _. ⌜ now (picture .exit) ≡ paintPixel (colorOf c) p (now (picture .entry)) ⌝ }
-{
-    let b = 4 * p;
-    picture[b] = c.r;
-    picture[b + 1] = c.g;
-    picture[b + 2] = c.b;
-    picture[b + 3] = c.a;
+// A stretch of a list: count pixels along the links from first.
+struct Stretch {
+    first: u32,
+    count: u32,
 }
 
-// Paints the pixels of the list of count pixels from first.
-fn paint_list(links: &[u32], picture: &mut [u8], size: u32, first: u32, count: u32, c: Color)
-    requires { ⌜ (size ≤ length (now links)) × (4 * size ≤ length (now picture)) × T (rules.reads size (now links) first count) ⌝ }
-    ensures { λ _. ⌜ now (picture .exit) ≡ each (walk (λ p. getD (now (links .entry)) p 0) first count) (paintPixel (colorOf c)) (now (picture .entry)) ⌝ }
+// The first half of the list of entry left - 1; nothing where left is 0.
+fn first_half(table: &[u32], outputs: &[u32], left: u32) -> Stretch
+    requires { ⌜ (left ≤ length (now outputs)) × (0 < left → 21 * getD (now outputs) (left - 1) 0 + 21 ≤ length (now table)) ⌝ }
+    ensures { λ r. ⌜ FirstHalf (now (table .entry)) (now (outputs .entry)) left (r .first) (r .count) ⌝ }
 {
-    let mut at = first;
-    let mut left = count;
-    while 0 < left {
-        let p = (at - 1) as usize;
-        paint_pixel(picture, p, c);
-        at = links[p];
-        left = left - 1;
+    if left == 0 {
+        return Stretch { first: 0, count: 0 };
+    }
+    let b = 21 * (outputs[(left - 1) as usize] as usize);
+    Stretch {
+        first: table[b + 0],
+        count: table[b + 1] / 2,
     }
 }
 
-// Paints the cluster of slot k with its residue average.
-fn paint_slot(links: &[u32], table: &[u32], picture: &mut [u8], size: u32, n: u32, k: u32)
-    requires { ⌜ (size ≤ length (now links)) × (21 * n ≤ length (now table)) × (4 * size ≤ length (now picture)) × (rules.entryAnswer size n (now links) (now table) k ≡ 0) ⌝ }
-    ensures { λ _. ⌜ now (picture .exit) ≡ rules.paintSlot (now (links .entry)) (now (table .entry)) k (now (picture .entry)) ⌝ }
+// Paints the cluster of slot k, whose middle is mid, with its residue average, and answers where ahead ends.
+fn paint_slot(
+    links: &[u32],
+    table: &[u32],
+    picture: &mut [u8],
+    size: u32,
+    n: u32,
+    k: u32,
+    mid: u32,
+    ahead: Stretch,
+) -> u32
+    requires { ⌜ (size ≤ length (now links)) × (21 * n ≤ length (now table)) × (4 * size ≤ length (now picture)) × (rules.entryAnswer size n (now links) (now table) k ≡ 0) × Leads size (now links) (rules.slotNumber (now table) k 0) (rules.slotNumber (now table) k 1 / 2) mid × T (rules.reads size (now links) (ahead .first) (ahead .count)) ⌝ }
+    ensures { λ r. ⌜ Leads size (now (links .entry)) (ahead .first) (ahead .count) r × (now (picture .exit) ≡ rules.paintSlot (now (links .entry)) (now (table .entry)) k (now (picture .entry))) ⌝ }
 {
     let ColorOrNone::Some(c) = residue(table, k).average() else {
-        return;
+        return 0;
     };
     let first = table[21 * (k as usize) + 0];
     let count = table[21 * (k as usize) + 1];
-    paint_list(links, picture, size, first, count, c);
+    let at = Cursors {
+        x: first,
+        y: mid,
+        z: ahead.first,
+    };
+    paint_halves(links, picture, size, at, count, ahead.count, c)
 }
 
 // Paints the entries m - 1, .. 0, all of which pass.
-fn paint_entries(
+pub(crate) fn paint_entries(
     links: &[u32],
     table: &[u32],
     outputs: &[u32],
@@ -148,31 +165,13 @@ fn paint_entries(
     requires { ⌜ CanPaint size n m (length (now links)) (length (now table)) (length (now outputs)) (length (now picture)) × (rules.entriesAnswer size n (now links) (now table) (now outputs) m ≡ 0) ⌝ }
     ensures { λ _. ⌜ now (picture .exit) ≡ timesBack m (λ i. rules.paintSlot (now (links .entry)) (now (table .entry)) (getD (now (outputs .entry)) i 0)) (now (picture .entry)) ⌝ }
 {
+    let begun = first_half(table, outputs, m);
+    let mut mid = look(links, size, begun.first, begun.count);
     let mut left = m;
     while 0 < left {
-        paint_slot(links, table, picture, size, n, outputs[(left - 1) as usize]);
+        let ahead = first_half(table, outputs, left - 1);
+        let k = outputs[(left - 1) as usize];
+        mid = paint_slot(links, table, picture, size, n, k, mid, ahead);
         left = left - 1;
     }
-}
-
-// Paints when every entry passes, and answers the number of the first check that failed.
-pub(crate) fn painting(
-    size: u32,
-    links: &[u32],
-    table: &[u32],
-    outputs: &[u32],
-    picture: &mut [u8],
-    n: u32,
-    m: u32,
-) -> u32
-    requires { ⌜ CanPaint size n m (length (now links)) (length (now table)) (length (now outputs)) (length (now picture)) ⌝ }
-    ensures { λ r. ⌜ record { answer = r; picture = now (picture .exit) } ≡ rules.painting size n m (now (links .entry)) (now (table .entry)) (now (outputs .entry)) (now (picture .entry)) ⌝ }
-{
-    let answer = entries_answer(links, table, outputs, size, n, m);
-    if answer != 0 {
-        return answer;
-    }
-    clear(picture);
-    paint_entries(links, table, outputs, picture, size, n, m);
-    0
 }

@@ -100,7 +100,7 @@ fn counted(e: Edge, n: u32, m: u32) -> Edge {
     e
 }
 
-fn lent(e: Edge, labels: usize, links: usize, table: usize, outputs: usize) -> Edge {
+fn lengths(e: Edge, labels: usize, links: usize, table: usize, outputs: usize) -> Edge {
     let mut e = e;
     e.labels = labels;
     e.links = links;
@@ -139,10 +139,10 @@ fn paint_at(k: u64) -> Edge {
         2 => answers(sized(e, 3, 0), 2),
         3 => answers(sized(e, 65001, 1), 3),
         4 => answers(sized(e, 65000, 1), 5),
-        5 => answers(lent(e, 6, 5, 147, 12), 5),
-        6 => answers(lent(e, 6, 6, 146, 12), 5),
-        7 => answers(lent(e, 6, 6, 147, 11), 5),
-        8 => lent(e, 0, 7, 148, 13),
+        5 => answers(lengths(e, 6, 5, 147, 12), 5),
+        6 => answers(lengths(e, 6, 6, 146, 12), 5),
+        7 => answers(lengths(e, 6, 6, 147, 11), 5),
+        8 => lengths(e, 0, 7, 148, 13),
         9 => counted(e, 7, 12),
         10 => answers(counted(e, 8, 2), 5),
         11 => answers(counted(e, 2, 13), 5),
@@ -150,6 +150,15 @@ fn paint_at(k: u64) -> Edge {
         13 => answers(whole(23), 6),
         14 => answers(whole(25), 6),
         15 => answers(counted(whole(25), 8, 2), 5),
+        36 => answers(lengths(whole(0), 0, 0, 0, 0), 5),
+        _ => entry_at(k),
+    }
+}
+
+// Painting, the calls whose entries are looked at.
+fn entry_at(k: u64) -> Edge {
+    let e = whole(24);
+    match k {
         16 => answers(counted(e, 1, 2), 8),
         17 => answers(changed(e, OUTPUTS, 0, 2), 8),
         18 => changed(e, OUTPUTS, 2, 2),
@@ -172,8 +181,7 @@ fn paint_at(k: u64) -> Edge {
             changed(changed(whole(23), OUTPUTS, 1, 2), TABLE, RED, 1531),
             6,
         ),
-        35 => answers(changed(e, TABLE, COUNT, 4294967295), 10),
-        _ => answers(lent(whole(0), 0, 0, 0, 0), 5),
+        _ => answers(changed(e, TABLE, COUNT, 4294967295), 10),
     }
 }
 
@@ -187,10 +195,10 @@ fn store_at(k: u64) -> Edge {
         0 => e,
         1 => answers(sized(e, 0, 2), 2),
         2 => answers(sized(e, 65001, 1), 3),
-        3 => answers(lent(e, 5, 6, 147, 12), 5),
-        4 => answers(lent(e, 6, 5, 147, 12), 5),
-        5 => answers(lent(e, 6, 6, 146, 12), 5),
-        6 => answers(lent(e, 6, 6, 147, 11), 5),
+        3 => answers(lengths(e, 5, 6, 147, 12), 5),
+        4 => answers(lengths(e, 6, 5, 147, 12), 5),
+        5 => answers(lengths(e, 6, 6, 146, 12), 5),
+        6 => answers(lengths(e, 6, 6, 147, 11), 5),
         7 => answers(counted(e, 8, 2), 5),
         8 => answers(counted(e, 2, 13), 5),
         9 => changed(e, LABELS, 5, 65535),
@@ -202,11 +210,14 @@ fn store_at(k: u64) -> Edge {
         15 => changed(e, TABLE, RED, 65536),
         16 => changed(e, TABLE, 42, 65536),
         17 => changed(e, OUTPUTS, 2, 65536),
-        18 => changed(lent(e, 7, 7, 148, 13), LABELS, 6, 65536),
+        18 => changed(lengths(e, 7, 7, 148, 13), LABELS, 6, 65536),
         19 => answers(whole(43), 13),
         20 => answers(whole(45), 13),
         21 => answers(changed(whole(43), LABELS, 0, 65536), 12),
-        22 => answers(changed(lent(whole(43), 5, 6, 147, 12), LABELS, 0, 65536), 5),
+        22 => answers(
+            changed(lengths(whole(43), 5, 6, 147, 12), LABELS, 0, 65536),
+            5,
+        ),
         23 => answers(counted(e, 1, 2), 13),
         _ => answers(whole(0), 13),
     }

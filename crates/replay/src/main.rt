@@ -21,6 +21,30 @@ fn print_replayed(r: cases::Replayed) {
     print_counts(r.differ, b" differ, ", r.left, b" bytes left over\n");
 }
 
+// Writes how many calls were made, and how many went wrong.
+fn print_tried(t: refusals::Tried, words: &[u8]) {
+    print_counts(t.calls, words, t.wrong, b" wrong\n");
+}
+
+// Tries the refusals of every call.
+fn try_refusals(
+    bytes: &[u8],
+    labels: &mut [u32],
+    links: &mut [u32],
+    table: &mut [u32],
+    outputs: &mut [u32],
+    work: &mut [u32],
+    picture: &mut [u8],
+) {
+    let runs = refusals::all(bytes, labels, links, table, outputs, work, picture);
+    print_tried(runs, b" runs at the edges of the refusals, ");
+    let sheets = edges::all(labels, links, table, outputs, picture);
+    print_tried(
+        sheets,
+        b" pictures, rows and sheets at the edges of the refusals, ",
+    );
+}
+
 // The window holds more than the longest case; the buffers hold what the largest image asks for, and two numbers more.
 fn main() {
     let mut window = [0u8; 131072];
@@ -42,7 +66,7 @@ fn main() {
         &mut destination,
     );
     print_replayed(replayed);
-    let tried = refusals::all(
+    try_refusals(
         &window,
         &mut labels,
         &mut links,
@@ -50,24 +74,5 @@ fn main() {
         &mut outputs,
         &mut work,
         &mut picture,
-    );
-    print_counts(
-        tried.calls,
-        b" runs at the edges of the refusals, ",
-        tried.wrong,
-        b" wrong\n",
-    );
-    let sheets = edges::all(
-        &mut labels,
-        &mut links,
-        &mut table,
-        &mut outputs,
-        &mut picture,
-    );
-    print_counts(
-        sheets.calls,
-        b" pictures, rows and sheets at the edges of the refusals, ",
-        sheets.wrong,
-        b" wrong\n",
     );
 }

@@ -39,7 +39,7 @@ pub record GoodSize (w h : ℕ) : Type 0 where
   pub some : 0 < w * h
   pub small : w * h ≤ limit
 
-good-size : (w h : ℕ) → eqb w 0 || eqb h 0 ≡ false → ltb limit (w * h) ≡ false → GoodSize w h
+pub good-size : (w h : ℕ) → eqb w 0 || eqb h 0 ≡ false → ltb limit (w * h) ≡ false → GoodSize w h
 good-size w h a b = record {
   wide = pos₀ w (neither (eqb w 0) (eqb h 0) a .0);
   high = pos₀ h (neither (eqb w 0) (eqb h 0) a .1);

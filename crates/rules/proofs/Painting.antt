@@ -77,7 +77,7 @@ module _ (c : Color) (p : ℕ) (l : List ℕ) where
 
 -- ---- a cluster
 
-each-length : (c : Color) (ps l : List ℕ) → length (each ps (paintPixel c) l) ≡ length l
+pub each-length : (c : Color) (ps l : List ℕ) → length (each ps (paintPixel c) l) ≡ length l
 each-length c [] l = refl
 each-length c (p ∷ ps) l = each-length c ps (paintPixel c p l) ∙ pixel-length c p l
 
@@ -88,7 +88,7 @@ each-other c q (p ∷ ps) l e = each-other c q ps (paintPixel c p l) (omega arit
     differ : q ≢ p
     differ x = let y : bit (eqb q p) ≡ 1 = ap bit (eqb-yes q p x) in omega arith
 
-each-in : (c : Color) (q : ℕ) (ps l : List ℕ) → 4 * q + 3 < length l → occurs q ps ≢ 0 → pixel (each ps (paintPixel c) l) q ≡ c
+pub each-in : (c : Color) (q : ℕ) (ps l : List ℕ) → 4 * q + 3 < length l → occurs q ps ≢ 0 → pixel (each ps (paintPixel c) l) q ≡ c
 each-in c q [] l h n = absurd (n refl)
 each-in c q (p ∷ ps) l h n =
     pick (each-in c q ps (paintPixel c p l) (omega (arith, pixel-length c p l))) (ℕ-discrete (occurs q ps) 0) (ℕ-discrete q p)

@@ -8,7 +8,7 @@ use lib.Dec.{eqb, ltb}
 use lib.ListN.{length}
 use Rattle.rules.specs.Refusals.{limit, tableLength, outputsLength, badCounts, notFourEach, paintAnswer}
 use Rattle.rules.specs.Calls.{paintCall}
-use Rattle.rules.proofs.Accepted.{passed, neither, not-below}
+use Rattle.rules.proofs.Accepted.{passed, neither, not-below, good-size}
 use Rattle.container.specs.Lent.{CanPaint}
 use Rattle.container.proofs.to_color_image.Statement.{statement}
 use Rattle.container.proofs.to_color_image.Tie as tie
@@ -26,6 +26,7 @@ can-paint w h links table outputs picture n m e =
     let l1 = neither (ltb links (w * h)) (ltb table (tableLength (w * h))) (l2 .0) in
     let k = neither (ltb (w * h + 1) n) (ltb (2 * (w * h)) m) (l3 .1) in
     record {
+      some = good-size w h (c2 .0) (c3 .0) .some;
       small = not-below limit (w * h) (c3 .0);
       links-fit = not-below links (w * h) (l1 .0);
       table-fits = omega (arith, not-below table (tableLength (w * h)) (l1 .1), not-below (w * h + 1) n (k .0));

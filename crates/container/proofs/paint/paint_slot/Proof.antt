@@ -5,13 +5,11 @@ use borrow.Author.Needs.{needs}
 use lib.Dec.{T}
 use mathlib.Core.List.{List}
 use lib.ListN.{getD}
-use Rattle.rules.specs.Base.{each}
 use Rattle.rules.specs.Color.{Color, hasAverage, average}
-use Rattle.rules.specs.Layout.{walk}
-use Rattle.rules.specs.Picture.{paintPixel}
 use Rattle.rules.specs.Paint.{slotNumber, residueOf, paintSlot}
 use Rattle.color.specs.Colors.{sumOf}
 use Rattle.color.proofs.Averages.{never-none, some-average}
+use Rattle.container.specs.Stretch.{paintAlong}
 use Rattle.container.proofs.Entries.{Passed, entry-passed}
 use Rattle.container.proofs.paint.paint_slot.Statement.{statement}
 use Rattle.container.proofs.paint.paint_slot.Tie as tie
@@ -26,16 +24,16 @@ has-one c = rw (c .residue .ensures) (entry (c .before .before .before .before) 
 returns : tie.Need-returns
 returns c = let a = c .before .before in absurd (never-none _ _ (has-one (a .before)) (c .enum-told .given .1) (a .average .ensures))
 
-paint-list-requires : tie.Need-paint-list-requires
+paint-halves-requires : tie.Need-paint-halves-requires
 unfolding slotNumber
-paint-list-requires c κs =
+paint-halves-requires c κs =
     let s = c .before .before .before .before .before .before .before .before .before .before .before in
-    (s .pre .0, s .pre .2, entry s .listed)
+    (s .pre .0, s .pre .2, entry s .listed, s .pre .4, s .pre .5)
 
 -- painting the list with the average is painting the slot
 painted : (links table : List ℕ) (k : ℕ) (x : Color) (before after : List ℕ) → x ≡ average (residueOf table k)
-    → after ≡ each (walk (λ p. getD links p 0) (getD table (21 * k + 0) 0) (getD table (21 * k + 1) 0)) (paintPixel x) before → after ≡ paintSlot links table k before
-unfolding paintSlot
+    → after ≡ paintAlong x links (getD table (21 * k + 0) 0) (getD table (21 * k + 1) 0) before → after ≡ paintSlot links table k before
+unfolding paintSlot paintAlong
 painted links table k x before after e h = rw e at h
 
 returns-2 : tie.Need-returns-2
@@ -43,7 +41,8 @@ returns-2 c =
     let t = c .before .before .before .before .before .before .before in
     let a = t .before .before in
     let r = a .before in
-    painted _ _ _ _ _ _ (some-average _ _ _ (has-one r) (t .c .given .1) (a .average .ensures) ∙ ap average (r .residue .ensures)) (c .before .before .paint-list .ensures)
+    let h = c .before .before .paint-halves .ensures in
+    (h .0, painted _ _ _ _ _ _ (some-average _ _ _ (has-one r) (t .c .given .1) (a .average .ensures) ∙ ap average (r .residue .ensures)) (h .1))
 
 pub paint-slot-spec : {M : Type 1} → statement M
 paint-slot-spec =
@@ -62,6 +61,6 @@ paint-slot-spec =
     (search needs)
     (search needs)
     (λ c. omega (arith, entry (c .before .before .before .before .before .before .before .before .before .before) .slot))
-    paint-list-requires
+    paint-halves-requires
     (search needs)
     returns-2)

@@ -4,8 +4,8 @@ use native.Mathlib.Omega.{arith}
 use borrow.Author.Needs.{needs}
 use lib.ListN.{length-set}
 use Rattle.rules.specs.Picture.{paintPixel}
-use Rattle.container.proofs.paint.paint_pixel.Statement.{statement}
-use Rattle.container.proofs.paint.paint_pixel.Tie as tie
+use Rattle.container.proofs.halves.paint_pixel.Statement.{statement}
+use Rattle.container.proofs.halves.paint_pixel.Tie as tie
 
 returns : tie.Need-returns
 unfolding paintPixel
