@@ -9,7 +9,7 @@ use lib.Dec.{leb, ltb, eqb}
 use Rattle.rules.specs.Base.{if_then_else_}
 use Rattle.rules.specs.Refusals.{Check, when, firstFailed, sizeChecks, limit, tableLength, outputsLength, badCounts, rowAnswer, storeAnswer}
 use Rattle.rules.proofs.Accepted.{passed, neither, not-below, equal, failed-later}
-use Rattle.container.specs.Lent.{CanStore}
+use Rattle.container.specs.Lengths.{CanStore}
 
 -- picture is a length
 pub row-accepted : (w h picture y : ℕ) → rowAnswer w h picture y ≡ 0 → (w * h ≤ limit) × (picture ≡ 4 * (w * h)) × (y < h)
@@ -26,8 +26,8 @@ module _ (w h labels links table outputs n m : ℕ) where
   abbrev pub short : Bool
   short = ltb labels (w * h) || ltb links (w * h) || ltb table (tableLength (w * h)) || ltb outputs (outputsLength (w * h)) || badCounts w h n m
 
-  pub lent-accepted : (later : List Check) → firstFailed (sizeChecks w h ++ (when 5 short ∷ later)) ≡ 0 → CanStore (w * h) n m labels links table outputs × (firstFailed later ≡ 0)
-  lent-accepted later e =
+  pub buffers-accepted : (later : List Check) → firstFailed (sizeChecks w h ++ (when 5 short ∷ later)) ≡ 0 → CanStore (w * h) n m labels links table outputs × (firstFailed later ≡ 0)
+  buffers-accepted later e =
       let c2 = passed 1 (eqb w 0 || eqb h 0) _ e in
       let c3 = passed 2 (ltb limit (w * h)) _ (c2 .1) in
       let c5 = passed 4 short _ (c3 .1) in
@@ -52,13 +52,13 @@ module _ (w h labels links table outputs n m : ℕ) where
 
   -- where the first checks pass, 12 and 13
   pub store-number : (destination : ℕ) (large : Bool) (exact : ℕ) → storeAnswer w h labels links table outputs destination n m large exact
-      ≡ (let lent = firstFailed (sizeChecks w h ++ (when 5 short ∷ [])) in if eqb lent 0 then firstFailed (when 12 large ∷ when 13 (not (eqb destination exact)) ∷ []) else lent)
+      ≡ (let early = firstFailed (sizeChecks w h ++ (when 5 short ∷ [])) in if eqb early 0 then firstFailed (when 12 large ∷ when 13 (not (eqb destination exact)) ∷ []) else early)
   unfolding storeAnswer
   store-number destination large exact = failed-later (sizeChecks w h ++ (when 5 short ∷ [])) (when 12 large ∷ when 13 (not (eqb destination exact)) ∷ []) tt
 
   pub store-accepted : (destination : ℕ) (large : Bool) (exact : ℕ) → storeAnswer w h labels links table outputs destination n m large exact ≡ 0 → CanStore (w * h) n m labels links table outputs × ((large ≡ false) × (destination ≡ exact))
   unfolding storeAnswer
   store-accepted destination large exact e =
-      let c5 = lent-accepted (when 12 large ∷ when 13 (not (eqb destination exact)) ∷ []) e in
+      let c5 = buffers-accepted (when 12 large ∷ when 13 (not (eqb destination exact)) ∷ []) e in
       let c12 = passed 11 large _ (c5 .1) in
       (c5 .0, (c12 .0, equal destination exact (passed 12 (not (eqb destination exact)) 0 (c12 .1) .0)))

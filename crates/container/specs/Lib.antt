@@ -1,5 +1,5 @@
 -- What the contracts of the library cite.
-pub mod Lent
+pub mod Lengths
 pub mod Leads
 pub mod Filled
 pub mod Covered

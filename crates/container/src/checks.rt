@@ -62,7 +62,7 @@ pub(crate) fn row_answer(w: u32, h: u32, picture: usize, y: u32) -> u32
 }
 
 // Checks 2, 3 and 5 of storing; labels, links, table and outputs are lengths.
-pub(crate) fn lent_answer(
+pub(crate) fn buffers_answer(
     w: u32,
     h: u32,
     labels: usize,

@@ -7,7 +7,7 @@ ghost use lib.ListN.{length, getD, replicate};
 ghost use Rattle.rules.specs.Base.{timesBack};
 ghost use Rattle.rules.specs.Paint as rules;
 ghost use Rattle.color.specs.Colors.{sumOf};
-ghost use Rattle.container.specs.Lent.{CanPaint};
+ghost use Rattle.container.specs.Lengths.{CanPaint};
 ghost use Rattle.container.specs.Leads.{Leads};
 ghost use Rattle.container.specs.Stretch.{FirstHalf};
 use crate::halves::Cursors;

@@ -6,7 +6,7 @@ ghost use lib.Dec.{T};
 ghost use lib.ListN.{length, getD};
 ghost use Rattle.rules.specs.Color.{hasAverage, average};
 ghost use Rattle.rules.specs.Paint as rules;
-ghost use Rattle.container.specs.Lent.{CanPaint};
+ghost use Rattle.container.specs.Lengths.{CanPaint};
 ghost use Rattle.container.specs.Quick.{NumbersPass, ListPasses};
 ghost use Rattle.container.specs.Filled.{filled};
 ghost use Rattle.container.specs.Covered.{Whole};

@@ -7,7 +7,7 @@ ghost use lib.ListN.{length, take};
 ghost use lib.Seq.{sets};
 ghost use Rattle.rules.specs.Refusals.{storeAnswer};
 ghost use Rattle.rules.specs.Stored.{storedNumbers, storedBytes, isLarge, twoBytes, pixelNumbers, slotNumbers};
-ghost use Rattle.container.specs.Lent.{CanStore};
+ghost use Rattle.container.specs.Lengths.{CanStore};
 use super::checks;
 
 // The largest number of two bytes.
@@ -152,7 +152,7 @@ pub(crate) fn answer(
 ) -> u32
     ensures { λ r. ⌜ r ≡ storeAnswer w h (length (now (labels .entry))) (length (now (links .entry))) (length (now (table .entry))) (length (now (outputs .entry))) destination n m (isLarge (storedNumbers w h (now (labels .entry)) (now (links .entry)) (now (table .entry)) (now (outputs .entry)) n m)) (2 * length (storedNumbers w h (now (labels .entry)) (now (links .entry)) (now (table .entry)) (now (outputs .entry)) n m)) ⌝ }
 {
-    let lent = checks::lent_answer(
+    let early = checks::buffers_answer(
         w,
         h,
         labels.len(),
@@ -162,8 +162,8 @@ pub(crate) fn answer(
         n,
         m,
     );
-    if lent != 0 {
-        return lent;
+    if early != 0 {
+        return early;
     }
     if large(w, h, labels, links, table, outputs, n, m) {
         return 12;

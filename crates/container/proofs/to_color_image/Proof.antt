@@ -9,7 +9,7 @@ use lib.ListN.{length}
 use Rattle.rules.specs.Refusals.{limit, tableLength, outputsLength, badCounts, notFourEach, paintAnswer}
 use Rattle.rules.specs.Calls.{paintCall}
 use Rattle.rules.proofs.Accepted.{passed, neither, not-below, good-size}
-use Rattle.container.specs.Lent.{CanPaint}
+use Rattle.container.specs.Lengths.{CanPaint}
 use Rattle.container.proofs.to_color_image.Statement.{statement}
 use Rattle.container.proofs.to_color_image.Tie as tie
 

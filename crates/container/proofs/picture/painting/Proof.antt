@@ -10,6 +10,9 @@ use Rattle.container.proofs.Pictures.{whole-passes}
 use Rattle.container.proofs.picture.painting.Statement.{statement}
 use Rattle.container.proofs.picture.painting.Tie as tie
 
+over-zeros-requires : tie.Need-over-zeros-requires
+over-zeros-requires c κs = (c .before .before .before .before .before .before .before .before .pre, c .before .entries-answer .ensures)
+
 -- the numbers pass
 numbers : (c : tie.Else1) → (let a = c .before .before .before .before .before .before .args in (i : ℕ) → i < a .m → NumbersPass (a .size) (a .n) (a .table .now) (getD (a .outputs .now) i 0))
 numbers c = c .before .numbers-pass .ensures (not-false _ (c .if1 .left))
@@ -38,5 +41,5 @@ over-last-requires c κs = (c .before .before .before .before .before .before .b
 pub painting-spec : {M : Type 1} → statement M
 painting-spec =
     tie.close
-    (tie.spec (search needs) (search needs) (search needs) (search needs) (λ c. c .before .before .over-zeros .ensures) covers-requires quick-answer-requires (search needs) (search needs)
+    (tie.spec (search needs) (search needs) over-zeros-requires (search needs) (λ c. c .before .before .over-zeros .ensures) covers-requires quick-answer-requires (search needs) (search needs)
     (λ c. c .before .before .over-zeros2 .ensures) sub-quick-answer quick-answer-requires-2 over-last-requires (search needs) (λ c. c .before .before .over-last .ensures))

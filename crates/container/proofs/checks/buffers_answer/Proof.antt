@@ -6,8 +6,8 @@ use borrow.Author.Needs.{needs}
 use borrow.Author.Tests.{eq-eqb, ne-eqb}
 use Rattle.rules.specs.Refusals.{limit, firstFailed, sizeChecks}
 use Rattle.rules.proofs.Accepted.{sized, sized-small}
-use Rattle.container.proofs.checks.lent_answer.Statement.{statement}
-use Rattle.container.proofs.checks.lent_answer.Tie as tie
+use Rattle.container.proofs.checks.buffers_answer.Statement.{statement}
+use Rattle.container.proofs.checks.buffers_answer.Tie as tie
 
 returns : tie.Need-returns
 returns c = rw (sized, ← c .before .size-answer .ensures, ne-eqb _ 0 (c .if1 .taken))
@@ -37,5 +37,5 @@ returns-3 c =
     let s = c .before .before in
     rw (sized, sized-zero (s .before), ← s .area .ensures, ← labels-first, ← c .before .short .ensures, c .if2 .left)
 
-pub lent-answer-spec : {M : Type 1} → statement M
-lent-answer-spec = tie.close (tie.spec (search needs) returns (search needs) short-requires returns-2 returns-3)
+pub buffers-answer-spec : {M : Type 1} → statement M
+buffers-answer-spec = tie.close (tie.spec (search needs) returns (search needs) short-requires returns-2 returns-3)
