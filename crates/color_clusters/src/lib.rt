@@ -93,7 +93,7 @@ pub fn run_and_paint(
     ensures { λ r. ⌜ record { ran = record { number = r .number; n = r .n; m = r .m; buffers = record { labels = now (labels .exit); links = now (links .exit); table = now (table .exit); outputs = now (outputs .exit); work = now (work .exit) } }; picture = now (picture .exit) } ≡ runAndPaintCall (configOf o) w h (now (image .entry)) (record { labels = now (labels .entry); links = now (links .entry); table = now (table .entry); outputs = now (outputs .entry); work = now (work .entry) }) (now (picture .entry)) ⌝ }
     ensures { λ r. ⌜ (r .number ≡ 0 → Demand3Left (configOf o) w h (now (image .entry)) (r .n) (now (labels .exit)) (now (links .exit)) (now (table .exit)) (now (picture .exit))) ⌝ }
 {
-    let number = checks::run_and_paint_answer(
+    let refusal = checks::run_and_paint_answer(
         o,
         w,
         h,
@@ -105,8 +105,12 @@ pub fn run_and_paint(
         work.len(),
         picture.len(),
     );
-    if number != 0 {
-        return Answer { number, n: 0, m: 0 };
+    if refusal != 0 {
+        return Answer {
+            number: refusal,
+            n: 0,
+            m: 0,
+        };
     }
     calls::accepted_and_painted(o, w, h, image, labels, links, table, outputs, work, picture)
 }
