@@ -1,11 +1,11 @@
 -- Laws on numbers that the proofs cite. Assume nothing.
 use Prim.Native.Nat.{ℕ, _+_, _*_, _/_, _^_, _≤_, _<_}
-use native.Mathlib.Nat.{lt-of-lt-of-le, pow-le-pow-right, div-eq-of-lt, mul-le-mul-right}
+use native.Mathlib.Nat.{lt-of-lt-of-le, pow-le-pow-right, div-eq-of-lt}
 use native.Mathlib.Omega.{arith}
 use mathlib.Core.Path.{_≡_, refl}
 use lib.IntN.{ℤ, pos, negsuc}
 use lib.Signed.{leZ}
-use mir.Syntax.{w8, w32, w64}
+use mir.Syntax.{w8, w32}
 use mir.Val.{Fits, SFits, toZ, ofZ}
 use mir.ValLaws.{toZ-pos, toZ-ofZ}
 use borrow.Author.Tests.{ltb-false}
@@ -24,14 +24,6 @@ at-most {d} {z} h f = rw (toZ-pos w32 d h, toZ-ofZ w32 z f) (by z)
 -- a shift above 7 leaves nothing of a byte
 pub gone : {c n : ℕ} → Fits w8 c → 7 < n → c / 2 ^ n ≡ 0
 gone b h = div-eq-of-lt (lt-of-lt-of-le (b .fits) (pow-le-pow-right (omega arith) h))
-
--- a place of an image of any size fits 64 bits
-pub place-fits : {w x y : ℕ} → Fits w32 w → Fits w32 x → Fits w32 y → Fits w64 (w * y + x)
-place-fits {w} {x} {y} f g h = omega (arith, mul-le-mul-right {m = w} {n = 4294967295} y (omega arith))
-
--- and so does where its row begins
-pub row-fits : {w y : ℕ} → Fits w32 w → Fits w32 y → Fits w64 (w * y)
-row-fits f g = omega (arith, place-fits f f g)
 
 -- the totals of an addition that is not refused
 pub totals-fit : (x y : ColorSum) → sumAnswer x y ≡ 0

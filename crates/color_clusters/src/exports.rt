@@ -4,12 +4,12 @@ ghost use lib.ListN.{length};
 ghost use Rattle.rules.specs.Refusals.{rowAnswer};
 ghost use Rattle.rules.specs.Calls.{runCall, paintCall, runAndPaintCall, storeCall};
 ghost use Rattle.rules.specs.Demand3.{Demand3Left};
-ghost use Rattle.color_clusters.specs.Types.{actionOf, configOf};
+ghost use Rattle.runner.specs.Types.{actionOf, configOf};
 ghost use Rattle.color_clusters.specs.Exports.{actionAt, settings};
-use crate::Answer;
-use crate::KeyingAction;
-use crate::RunnerConfig;
 use color::Color;
+use runner::Answer;
+use runner::KeyingAction;
+use runner::RunnerConfig;
 
 // 0 keeps pixels of the key colour, any other number discards them.
 fn action_of(action: u32) -> KeyingAction
@@ -58,7 +58,7 @@ fn config(
     }
 }
 
-// `run`, with the settings one by one.
+// `runner::run`, with the settings one by one.
 #[no_mangle]
 pub extern "C" fn color_clusters_run(
     is_same_color_a: i32,
@@ -98,7 +98,7 @@ pub extern "C" fn color_clusters_run(
         key_a,
         action,
     );
-    crate::run(o, w, h, image, labels, links, table, outputs, work)
+    runner::run(o, w, h, image, labels, links, table, outputs, work)
 }
 
 // `run_and_paint`, with the settings one by one.
@@ -163,15 +163,15 @@ pub extern "C" fn color_clusters_paint(
     container::to_color_image(w, h, links, table, outputs, picture, n, m)
 }
 
-// `container::row_check`.
+// `sheet::row_check`.
 #[no_mangle]
 pub extern "C" fn color_clusters_row_check(w: u32, h: u32, picture: &[u8], y: u32) -> u32
     ensures { λ r. ⌜ r ≡ rowAnswer w h (length (now (picture .entry))) y ⌝ }
 {
-    container::row_check(w, h, picture, y)
+    sheet::row_check(w, h, picture, y)
 }
 
-// `container::store`.
+// `sheet::store`.
 #[no_mangle]
 pub extern "C" fn color_clusters_store(
     w: u32,
@@ -186,5 +186,5 @@ pub extern "C" fn color_clusters_store(
 ) -> u32
     ensures { λ r. ⌜ record { answer = r; destination = now (destination .exit) } ≡ storeCall w h (now (labels .entry)) (now (links .entry)) (now (table .entry)) (now (outputs .entry)) (now (destination .entry)) n m ⌝ }
 {
-    container::store(w, h, labels, links, table, outputs, destination, n, m)
+    sheet::store(w, h, labels, links, table, outputs, destination, n, m)
 }

@@ -11,13 +11,3 @@ pub record CanPaint (size n m links table outputs picture : ℕ) : Type 0 where
   pub table-fits : 21 * n ≤ table
   pub outputs-fit : m ≤ outputs
   pub picture-fits : picture ≡ 4 * size
-
--- storing: labels, links, table and outputs are lengths
-pub record CanStore (size n m labels links table outputs : ℕ) : Type 0 where
-  pub small : size ≤ limit
-  pub slots : n ≤ size + 1
-  pub entries : m ≤ 2 * size
-  pub labels-fit : size ≤ labels
-  pub links-fit : size ≤ links
-  pub table-fits : 21 * n ≤ table
-  pub outputs-fit : m ≤ outputs

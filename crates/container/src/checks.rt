@@ -1,10 +1,9 @@
-// The checks that need no number of a buffer, in their order.
+// The checks of painting that need no number of a buffer, in their order.
 ghost use mathlib.Core.Path.{_≡_};
 ghost use mathlib.Core.Bool.{_||_};
 ghost use Prim.Native.Nat.{_+_, _*_, _≤_};
 ghost use lib.Dec.{ltb};
-ghost use Rattle.rules.specs.Refusals.{firstFailed, when, sizeChecks, badCounts, tableLength, outputsLength, paintAnswer, rowAnswer};
-ghost use mathlib.Core.List.{[], _∷_, _++_};
+ghost use Rattle.rules.specs.Refusals.{tableLength, outputsLength, paintAnswer};
 
 // Check 5 of painting: whether a buffer is too short, or a count too large.
 fn short(size: usize, links: usize, table: usize, outputs: usize, n: u32, m: u32) -> bool
@@ -30,57 +29,16 @@ pub(crate) fn paint_answer(
 ) -> u32
     ensures { λ r. ⌜ r ≡ paintAnswer w h links table outputs picture n m ⌝ }
 {
-    let answer = crate::size_answer(w, h);
+    let answer = image::size_answer(w, h);
     if answer != 0 {
         return answer;
     }
-    let size = crate::area(w, h) as usize;
+    let size = image::area(w, h) as usize;
     if short(size, links, table, outputs, n, m) {
         return 5;
     }
     if picture != 4 * size {
         return 6;
-    }
-    0
-}
-
-// The checks of a row; picture is a length.
-pub(crate) fn row_answer(w: u32, h: u32, picture: usize, y: u32) -> u32
-    ensures { λ r. ⌜ r ≡ rowAnswer w h picture y ⌝ }
-{
-    let answer = crate::size_answer(w, h);
-    if answer != 0 {
-        return answer;
-    }
-    if picture != 4 * crate::area(w, h) as usize {
-        return 6;
-    }
-    if h <= y {
-        return 11;
-    }
-    0
-}
-
-// Checks 2, 3 and 5 of storing; labels, links, table and outputs are lengths.
-pub(crate) fn buffers_answer(
-    w: u32,
-    h: u32,
-    labels: usize,
-    links: usize,
-    table: usize,
-    outputs: usize,
-    n: u32,
-    m: u32,
-) -> u32
-    ensures { λ r. ⌜ r ≡ firstFailed (sizeChecks w h ++ (when 5 (ltb labels (w * h) || ltb links (w * h) || ltb table (tableLength (w * h)) || ltb outputs (outputsLength (w * h)) || badCounts w h n m) ∷ [])) ⌝ }
-{
-    let answer = crate::size_answer(w, h);
-    if answer != 0 {
-        return answer;
-    }
-    let size = crate::area(w, h) as usize;
-    if (labels < size) | short(size, links, table, outputs, n, m) {
-        return 5;
     }
     0
 }

@@ -115,10 +115,10 @@ unfolding runAnswer runAndPaintAnswer
 run-and-paint-number o w h image labels links table outputs work picture = failed-later (runChecks w h o image labels links table outputs work) (when 6 (notFourEach w h picture) ∷ []) tt
 
 pub run-and-paint-accepted : (o : RunnerConfig) (w h image labels links table outputs work picture : ℕ) → runAndPaintAnswer w h o image labels links table outputs work picture ≡ 0
-    → Accepted o w h image labels links table outputs work × (picture ≡ 4 * (w * h))
+    → (runAnswer w h o image labels links table outputs work ≡ 0) × (picture ≡ 4 * (w * h))
 run-and-paint-accepted o w h image labels links table outputs work picture e =
     let x = go (runAnswer w h o image labels links table outputs work) (sym (run-and-paint-number o w h image labels links table outputs work picture) ∙ e) in
-    (run-accepted o w h image labels links table outputs work (x .0), equal picture (4 * (w * h)) (passed 5 (notFourEach w h picture) 0 (x .1) .0))
+    (x .0, equal picture (4 * (w * h)) (passed 5 (notFourEach w h picture) 0 (x .1) .0))
   where
     go : (r : ℕ) {l : ℕ} → (if eqb r 0 then l else r) ≡ 0 → (r ≡ 0) × (l ≡ 0)
     go zero e = (refl, e)

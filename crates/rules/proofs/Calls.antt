@@ -15,12 +15,12 @@ use Rattle.rules.specs.Layout.{slotWidth, links, table}
 use Rattle.rules.specs.Picture.{paint}
 use Rattle.rules.specs.Paint.{Painted, painting}
 use Rattle.rules.specs.Refusals.{limit, tableLength, outputsLength, paintAnswer}
-use Rattle.rules.specs.Calls.{Buffers, Ran, over, leaves, accepted, runNumber, paintCall}
+use Rattle.rules.specs.Calls.{Buffers, Ran, over, leaves, accepted, runNumber, runCall, paintCall}
 use Rattle.rules.proofs.Facts.{is-false, eqb-yes, eqb-no}
 use Rattle.rules.proofs.Bounds.{outputs-bound}
 use Rattle.rules.proofs.Ranges.{run-ranged}
 use Rattle.rules.proofs.Moments.{run-width}
-use Rattle.rules.proofs.Accepted.{Accepted, run-accepted}
+use Rattle.rules.proofs.Accepted.{run-accepted}
 use Rattle.rules.proofs.Layouts.{links-length, table-length, leaves-lies}
 use Rattle.rules.proofs.Paint.{run-painting}
 
@@ -77,33 +77,26 @@ module _ (o : RunnerConfig) (w h : ℕ) (image : List ℕ) (bytes : (i : ℕ) �
   unfolding leaves
   leaves-outputs l = over-length (run o w h image .outputs) (b .outputs) (omega (arith, run-outputs o w h image))
 
-  -- what an accepted call has passed
-  abbrev pub Fit : Type 0
-  Fit = Accepted o w h (length image) (length (b .labels)) (length (b .links)) (length (b .table)) (length (b .outputs)) (length (b .work))
-
-  painted : Fit → (given : List ℕ) → length given ≡ 4 * (w * h)
+  -- no check refuses the painting of an accepted run
+  pub run-then-paint : runNumber o w h image b ≡ 0 → (given : List ℕ) → length given ≡ 4 * (w * h)
       → paintCall w h (leaves (run o w h image) b .links) (leaves (run o w h image) b .table) (leaves (run o w h image) b .outputs) given (length (run o w h image .clusters)) (length (run o w h image .outputs))
       ≡ record { answer = 0; picture = paint (w * h) (run o w h image) }
-  unfolding paintCall
-  painted A given g =
+  unfolding runNumber paintCall
+  run-then-paint e given g =
+      let A = run-accepted o w h (length image) (length (b .labels)) (length (b .links)) (length (b .table)) (length (b .outputs)) (length (b .work)) e in
       let s = run o w h image in
       let z = paint-passes w h (length (leaves s b .links)) (length (leaves s b .table)) (length (leaves s b .outputs)) (length given) (length (s .clusters)) (length (s .outputs)) (A .size .wide) (A .size .high) (A .size .small)
       (omega (arith, leaves-links (A .links-fit), A .links-fit)) (omega (arith, leaves-table (A .table-fits), A .table-fits)) (omega (arith, leaves-outputs (A .outputs-fit), A .outputs-fit))
       (run-ranged image bytes o w h .slots) (run-outputs o w h image) g in
       rw z (run-painting image bytes o w h (length (s .clusters)) (length (s .outputs)) (leaves s b .links) (leaves s b .table) (leaves s b .outputs) given (leaves-lies (w * h) s (run-width o w h image) b))
 
-  pub run-then-paint : runNumber o w h image b ≡ 0 → (given : List ℕ) → length given ≡ 4 * (w * h)
-      → paintCall w h (leaves (run o w h image) b .links) (leaves (run o w h image) b .table) (leaves (run o w h image) b .outputs) given (length (run o w h image .clusters)) (length (run o w h image .outputs))
-      ≡ record { answer = 0; picture = paint (w * h) (run o w h image) }
-  unfolding runNumber
-  run-then-paint e = painted (run-accepted o w h (length image) (length (b .labels)) (length (b .links)) (length (b .table)) (length (b .outputs)) (length (b .work)) e)
-
   -- an accepted run and then painting, as calls answer and leave it: what both leave
-  pub then-painted : Fit → (given : List ℕ) → length given ≡ 4 * (w * h)
-      → (r : Ran) → r ≡ accepted o w h image b → (p : Painted) → p ≡ paintCall w h (r .buffers .links) (r .buffers .table) (r .buffers .outputs) given (r .n) (r .m)
+  pub then-painted : runNumber o w h image b ≡ 0 → (given : List ℕ) → length given ≡ 4 * (w * h)
+      → (r : Ran) → r ≡ runCall o w h image b → (p : Painted) → p ≡ paintCall w h (r .buffers .links) (r .buffers .table) (r .buffers .outputs) given (r .n) (r .m)
       → (_≡_ {A = Ran} (record { number = p .answer; n = r .n; m = r .m; buffers = r .buffers }) (accepted o w h image b)) × (p .picture ≡ paint (w * h) (run o w h image))
-  unfolding accepted
-  then-painted A given g r e p f =
-      let q = f ∙ ap (λ x. paintCall w h (x .buffers .links) (x .buffers .table) (x .buffers .outputs) given (x .n) (x .m)) e ∙ painted A given g in
+  unfolding runCall accepted
+  then-painted z given g r d p f =
+      let e : r ≡ accepted o w h image b = rw z at d in
+      let q = f ∙ ap (λ x. paintCall w h (x .buffers .links) (x .buffers .table) (x .buffers .outputs) given (x .n) (x .m)) e ∙ run-then-paint z given g in
       let same : p .answer ≡ r .number = ap (λ x. x .answer) q ∙ sym (ap (λ x. x .number) e) in
       (ap (λ a. record { number = a; n = r .n; m = r .m; buffers = r .buffers }) same ∙ e, ap (λ x. x .picture) q)

@@ -29,6 +29,7 @@ pub mod Labels
 pub mod Neighbours
 pub mod Turns
 pub mod Accepted
+pub mod Fits
 pub mod Walks
 pub mod Layouts
 pub mod Paint

@@ -6,7 +6,7 @@ use lib.Dec.{leb}
 use borrow.Author.Needs.{needs}
 use borrow.Author.Tests.{lt-ltb, le-ltb, le-leb, lt-leb}
 use Rattle.rules.specs.Color.{pixel, pixelAt}
-use Rattle.color.proofs.Laws.{place-fits, row-fits}
+use Rattle.rules.proofs.Fits.{place-fits, row-fits}
 use Rattle.color.proofs.pixel_at.Statement.{statement}
 use Rattle.color.proofs.pixel_at.Tie as tie
 

@@ -5,7 +5,7 @@ use lib.ListN.{length}
 use Rattle.rules.specs.Refusals.{runAndPaintAnswer}
 use Rattle.rules.specs.Calls.{Buffers, runAndPaintNumber, runAndPaintCall}
 use Rattle.rules.proofs.Left.{run-and-paint-left}
-use Rattle.color_clusters.specs.Types.{configOf}
+use Rattle.runner.specs.Types.{configOf}
 use Rattle.color_clusters.proofs.run_and_paint.Statement.{statement}
 use Rattle.color_clusters.proofs.run_and_paint.Tie as tie
 
@@ -23,17 +23,17 @@ passed : (c : tie.Else1)
     → (let a = c .before .before .before .before .before .before .before .before .before .args in runAndPaintAnswer (a .w) (a .h) (configOf (a .o)) (length (a .image .now)) (length (a .labels .now)) (length (a .links .now)) (length (a .table .now)) (length (a .outputs .now)) (length (a .work .now)) (length (a .picture .now)) ≡ 0)
 passed c = sym (c .before .run-and-paint-answer .ensures) ∙ c .if1 .left
 
-accepted-and-painted-requires : tie.Need-accepted-and-painted-requires
-accepted-and-painted-requires c κs = passed (c .before .before .before .before .before .before)
+run-then-paint-requires : tie.Need-run-then-paint-requires
+run-then-paint-requires c κs = passed (c .before .before .before .before .before .before)
 
 returns-2 : tie.Need-returns-2
 unfolding runAndPaintCall runAndPaintNumber
 returns-2 c =
-    let e = c .before .before .before .before .before .before .before .before .before .before .before .before .accepted-and-painted .ensures in
+    let e = c .before .before .before .before .before .before .before .before .before .before .before .before .run-then-paint .ensures in
     let s = c .before .before .before .before .before .before .before .before .before .before .before .before .before .before .before .before .before .before .before .before .before .before .before .before .before .before .before .before in
     run-and-paint-left (configOf (s .args .o)) (s .args .w) (s .args .h) (s .args .image .now) (lent s) (s .args .picture .now) _ (rw (passed (c .before .before .before .before .before .before .before .before .before .before .before .before .before .before .before .before .before .before .before)) (ap₂ (λ r p. record { ran = r; picture = p }) (e .0) (e .1)))
 
 pub run-and-paint-spec : {M : Type 1} → statement M
 run-and-paint-spec =
     tie.close
-    (tie.spec (search needs) returns accepted-and-painted-requires (search needs) (search needs) (search needs) (search needs) (search needs) (search needs) returns-2)
+    (tie.spec (search needs) returns run-then-paint-requires (search needs) (search needs) (search needs) (search needs) (search needs) (search needs) returns-2)

@@ -1,7 +1,7 @@
 use mathlib.Core.Path.{refl}
 use borrow.Author.Needs.{needs}
 use Rattle.rules.specs.Paint.{slotNumber, fiveFrom}
-use Rattle.container.proofs.Slots.{slot-fits, slot-offset, slot-in}
+use Rattle.rules.proofs.Fits.{slot-fits, slot-offset, slot-in}
 use Rattle.container.proofs.paint.residue.Statement.{statement}
 use Rattle.container.proofs.paint.residue.Tie as tie
 

@@ -1,6 +1,6 @@
 -- The product of two 32-bit numbers fits.
 use borrow.Author.Needs.{needs}
-use Rattle.color.proofs.Laws.{row-fits}
+use Rattle.rules.proofs.Fits.{row-fits}
 use Rattle.replay.proofs.cases.area.Statement.{statement}
 use Rattle.replay.proofs.cases.area.Tie as tie
 

@@ -1,0 +1,23 @@
+-- Where the numbers of a slot stand in the table, and when a head is that of a cluster. Assumes nothing.
+use mathlib.Core.Path.{_≡_}
+use Prim.Native.Nat.{ℕ, _+_, _*_, _≤_, _<_}
+use native.Mathlib.Omega.{arith}
+use mir.Syntax.{w32, w64}
+use mir.Val.{Fits}
+use lib.Dec.{T, ltb, lit<}
+use lib.ListN.{length}
+use Rattle.rules.specs.State.{Cluster}
+use Rattle.rules.specs.Layout.{firstOf}
+use Rattle.color.specs.Colors.{sumOf}
+use Rattle.runner.specs.declared.slot.Head.{Head}
+use Rattle.runner.specs.Types.{rectOf}
+use Rattle.runner.specs.Slots.{headOf}
+
+-- a head is a cluster's by its four parts
+pub head-is : {h : Head} (k : Cluster) → h .first ≡ firstOf (k .pixels) → h .count ≡ length (k .pixels) → rectOf (h .rect) ≡ k .rect → sumOf (h .sum) ≡ k .sum → h ≡ headOf k
+head-is k f n e s = λ i. record {
+  first = f i;
+  count = n i;
+  rect = record { left = e i .left; top = e i .top; right = e i .right; bottom = e i .bottom };
+  sum = record { r = s i .r; g = s i .g; b = s i .b; a = s i .a; counter = s i .count };
+}

@@ -1,0 +1,290 @@
+-- Laws of the tournament tree. Assumes nothing.
+use mathlib.Core.Path.{_≡_, refl, sym, ap, ap₂, _∙_, subst}
+use mathlib.Core.Logic.{_⊎_, inl, inr}
+use mathlib.Core.Bool.{Bool, true, false, _&&_}
+use mathlib.Core.List.{List}
+use Prim.Native.Nat.{ℕ, zero, suc, _+_, _*_, _-_, _/_, _≤_, _<_}
+use native.Mathlib.Decide.{ℕ-discrete, decLt}
+use native.Mathlib.Omega.{arith}
+use lib.Dec.{ltb, eqb}
+use lib.ListN.{length, getD, set, length-set}
+use lib.Seq.{getD-set-same, getD-set-other, set-getD}
+use borrow.Author.Tests.{ltb-true, ltb-false, eqb-true, le-leb, lt-leb}
+use Rattle.rules.specs.Base.{if_then_else_}
+use Rattle.runner.specs.declared.queue.Entry.{Entry}
+use Rattle.runner.specs.Queue.{Sized, leaf, node, entryAt, firstOf, firstBelow, Tree, refreshed, First}
+
+-- ---- the order of entries
+
+-- a comes before b, or is b
+abbrev Before : Entry → Entry → Type 0
+Before a b = (a .key < b .key) ⊎ ((a .key ≡ b .key) × (a .slot ≤ b .slot))
+
+before-refl : (a : Entry) → Before a a
+before-refl a = inr (refl, omega arith)
+
+before-trans : (a b c : Entry) → Before a b → Before b c → Before a c
+before-trans a b c (inl x) (inl y) = inl (omega arith)
+before-trans a b c (inl x) (inr y) = inl (omega (arith, y .0))
+before-trans a b c (inr x) (inl y) = inl (omega (arith, x .0))
+before-trans a b c (inr x) (inr y) = inr (x .0 ∙ y .0, omega (arith, x .1, y .1))
+
+-- c is one of a and b and comes before both
+abbrev Chosen : Entry → Entry → Entry → Type 0
+Chosen a b c = Before c a × Before c b × ((c ≡ a) ⊎ (c ≡ b))
+
+first-of : (a b : Entry) → Chosen a b (firstOf a b)
+unfolding firstOf
+first-of a b = keys (ltb (a .key) (b .key)) refl
+  where
+    slots : (t : Bool) → ltb (a .slot) (b .slot) ≡ t → a .key ≡ b .key → Chosen a b (if t then a else b)
+    slots true e k = (before-refl a, inr (k, omega (arith, ltb-true (a .slot) (b .slot) e)), inl refl)
+    slots false e k = (inr (sym k, ltb-false (a .slot) (b .slot) e), before-refl b, inr refl)
+
+    other : (t : Bool) → ltb (b .key) (a .key) ≡ t → b .key ≤ a .key → Chosen a b (if t then b else if ltb (a .slot) (b .slot) then a else b)
+    other true e l = (inl (ltb-true (b .key) (a .key) e), before-refl b, inr refl)
+    other false e l = slots (ltb (a .slot) (b .slot)) refl (omega (arith, ltb-false (b .key) (a .key) e))
+
+    keys : (t : Bool) → ltb (a .key) (b .key) ≡ t → Chosen a b (if t then a else if ltb (b .key) (a .key) then b else if ltb (a .slot) (b .slot) then a else b)
+    keys true e = (before-refl a, inl (ltb-true (a .key) (b .key) e), inl refl)
+    keys false e = other (ltb (b .key) (a .key)) refl (ltb-false (a .key) (b .key) e)
+
+-- ---- positions
+
+module _ (queue : List ℕ) (n room x : ℕ) where
+  pub at-leaf : n ≤ x → entryAt queue n room x ≡ leaf queue (x - n)
+  unfolding entryAt
+  at-leaf l = rw (le-leb n x l)
+
+  pub at-node : x < n → entryAt queue n room x ≡ node queue room x
+  unfolding entryAt
+  at-node l = rw (lt-leb n x l)
+
+-- ---- the least
+
+module _ (queue : List ℕ) (n room : ℕ) (H : Tree queue n room) where
+  node-is : (j : ℕ) → 1 ≤ j → j < n → entryAt queue n room j ≡ firstBelow queue n room j
+  unfolding Tree
+  node-is = H
+
+  -- a node comes before what stands below it
+  above : (x : ℕ) → 2 ≤ x → x < 2 * n → Before (entryAt queue n room (x / 2)) (entryAt queue n room x)
+  above x a b = go (ℕ-discrete x (2 * (x / 2)))
+    where
+      F : Chosen (entryAt queue n room (2 * (x / 2))) (entryAt queue n room (2 * (x / 2) + 1)) (firstBelow queue n room (x / 2))
+      F = first-of (entryAt queue n room (2 * (x / 2))) (entryAt queue n room (2 * (x / 2) + 1))
+
+      N : entryAt queue n room (x / 2) ≡ firstBelow queue n room (x / 2)
+      N = node-is (x / 2) (omega arith) (omega arith)
+
+      go : Dec (x ≡ 2 * (x / 2)) → Before (entryAt queue n room (x / 2)) (entryAt queue n room x)
+      go (yes e) = subst (λ e. Before e (entryAt queue n room x)) (sym N) (subst (λ y. Before (firstBelow queue n room (x / 2)) (entryAt queue n room y)) (sym e) (F .0))
+      go (no d) = subst (λ e. Before e (entryAt queue n room x)) (sym N) (subst (λ y. Before (firstBelow queue n room (x / 2)) (entryAt queue n room y)) (let z : 2 * (x / 2) + 1 ≡ x = omega arith in z) (F .1))
+
+  -- the root comes before every position
+  root-before : (m x : ℕ) → x ≤ m → 1 ≤ x → x < 2 * n → Before (entryAt queue n room 1) (entryAt queue n room x)
+  root-before zero x l a b = absurd (omega arith)
+  root-before (suc m) x l a b = go (ℕ-discrete x 1) (root-before m (x / 2))
+    where
+      go : Dec (x ≡ 1) → (x / 2 ≤ m → 1 ≤ x / 2 → x / 2 < 2 * n → Before (entryAt queue n room 1) (entryAt queue n room (x / 2))) → Before (entryAt queue n room 1) (entryAt queue n room x)
+      go (yes e) R = subst (λ y. Before (entryAt queue n room 1) (entryAt queue n room y)) (sym e) (before-refl (entryAt queue n room 1))
+      go (no d) R = before-trans (entryAt queue n room 1) (entryAt queue n room (x / 2)) (entryAt queue n room x) (R (omega arith) (omega arith) (omega arith)) (above x (omega arith) b)
+
+  -- every position holds some slot with its key
+  some-leaf : (m x : ℕ) → 2 * n ≤ x + m → 1 ≤ x → x < 2 * n → (k : ℕ) × (k < n) × (entryAt queue n room x ≡ leaf queue k)
+  some-leaf zero x l a b = absurd (omega arith)
+  some-leaf (suc m) x l a b = go (decLt x n) (some-leaf m (2 * x)) (some-leaf m (2 * x + 1))
+    where
+      up : (y : ℕ) → entryAt queue n room x ≡ entryAt queue n room y → (k : ℕ) × (k < n) × (entryAt queue n room y ≡ leaf queue k) → (k : ℕ) × (k < n) × (entryAt queue n room x ≡ leaf queue k)
+      up y e (k, l, z) = (k, l, e ∙ z)
+
+      go : Dec (x < n) → (2 * n ≤ 2 * x + m → 1 ≤ 2 * x → 2 * x < 2 * n → (k : ℕ) × (k < n) × (entryAt queue n room (2 * x) ≡ leaf queue k))
+          → (2 * n ≤ 2 * x + 1 + m → 1 ≤ 2 * x + 1 → 2 * x + 1 < 2 * n → (k : ℕ) × (k < n) × (entryAt queue n room (2 * x + 1) ≡ leaf queue k))
+          → (k : ℕ) × (k < n) × (entryAt queue n room x ≡ leaf queue k)
+      go (no d) L R = (x - n, omega arith, at-leaf queue n room x (omega arith))
+      go (yes d) L R = side (first-of (entryAt queue n room (2 * x)) (entryAt queue n room (2 * x + 1)) .2)
+        where
+          side : (firstBelow queue n room x ≡ entryAt queue n room (2 * x)) ⊎ (firstBelow queue n room x ≡ entryAt queue n room (2 * x + 1)) → (k : ℕ) × (k < n) × (entryAt queue n room x ≡ leaf queue k)
+          side (inl e) = up (2 * x) (node-is x a d ∙ e) (L (omega arith) (omega arith) (omega arith))
+          side (inr e) = up (2 * x + 1) (node-is x a d ∙ e) (R (omega arith) (omega arith) (omega arith))
+
+  -- the root is the least
+  pub root-first : 1 ≤ n → First queue n room (entryAt queue n room 1)
+  root-first p = go (some-leaf (2 * n) 1 (omega arith) (omega arith) (omega arith))
+    where
+      go : (k : ℕ) × (k < n) × (entryAt queue n room 1 ≡ leaf queue k) → First queue n room (entryAt queue n room 1)
+      go (k, l, e) = subst (First queue n room) (sym e) (record {
+        in-range = l;
+        own = refl;
+        least = λ j b. subst (λ r. Before r (leaf queue j)) e (subst (Before (entryAt queue n room 1)) (leaf-is j) (root-before (2 * n) (n + j) (omega arith) (omega arith) (omega arith)));
+      })
+        where
+          leaf-is : (j : ℕ) → entryAt queue n room (n + j) ≡ leaf queue j
+          leaf-is j = at-leaf queue n room (n + j) (omega arith) ∙ ap (leaf queue) (let z : n + j - n ≡ j = omega arith in z)
+
+-- ---- one node made from its children
+
+module _ (queue : List ℕ) (n room : ℕ) (S : Sized n room (length queue)) (j : ℕ) (b : j < n) where
+  made-length : length (refreshed queue n room j) ≡ length queue
+  unfolding refreshed
+  made-length = simp length-set
+
+  other : (y : ℕ) → (y ≡ room + 2 * j → ⊥) → (y ≡ room + 2 * j + 1 → ⊥) → getD (refreshed queue n room j) y 0 ≡ getD queue y 0
+  unfolding refreshed
+  other y d e =
+      getD-set-other (set queue (room + 2 * j) (firstBelow queue n room j .key)) (room + 2 * j + 1) y (firstBelow queue n room j .slot) 0 e
+      ∙ getD-set-other queue (room + 2 * j) y (firstBelow queue n room j .key) 0 d
+
+  -- the keys stay
+  made-keys : (y : ℕ) → y < room → getD (refreshed queue n room j) y 0 ≡ getD queue y 0
+  made-keys y l = other y (λ e. omega arith) (λ e. omega arith)
+
+  -- what stands at every other position stays
+  made-other : (x : ℕ) → x < 2 * n → (x ≡ j → ⊥) → entryAt (refreshed queue n room j) n room x ≡ entryAt queue n room x
+  made-other x l d = go (decLt x n)
+    where
+      go : Dec (x < n) → entryAt (refreshed queue n room j) n room x ≡ entryAt queue n room x
+      go (yes y) =
+          at-node (refreshed queue n room j) n room x y
+          ∙ ap₂ (λ k s. record { key = k; slot = s }) (other (room + 2 * x) (λ e. d (omega arith)) (λ e. omega arith)) (other (room + 2 * x + 1) (λ e. omega arith) (λ e. d (omega arith)))
+          ∙ sym (at-node queue n room x y)
+      go (no y) =
+          at-leaf (refreshed queue n room j) n room x (omega arith)
+          ∙ ap (λ k. record { key = k; slot = x - n }) (made-keys (x - n) (omega (arith, S .within)))
+          ∙ sym (at-leaf queue n room x (omega arith))
+
+  made-node : entryAt (refreshed queue n room j) n room j ≡ firstBelow queue n room j
+  unfolding refreshed
+  made-node =
+      at-node (refreshed queue n room j) n room j b
+      ∙ ap₂ (λ k s. record { key = k; slot = s })
+      (getD-set-other (set queue (room + 2 * j) (firstBelow queue n room j .key)) (room + 2 * j + 1) (room + 2 * j) (firstBelow queue n room j .slot) 0 (λ e. omega arith)
+      ∙ getD-set-same queue (room + 2 * j) (firstBelow queue n room j .key) 0 (omega (arith, S .within, S .fits)))
+      (getD-set-same (set queue (room + 2 * j) (firstBelow queue n room j .key)) (room + 2 * j + 1) (firstBelow queue n room j .slot) 0 (simp length-set (omega (arith, S .within, S .fits))))
+
+  -- afterwards node i holds the first of its children if it did before, or is j; but the node above j may not
+  made-holds : (i : ℕ) → 1 ≤ i → i < n → (i ≡ j / 2 → ⊥) → ((i ≡ j → ⊥) → entryAt queue n room i ≡ firstBelow queue n room i)
+      → entryAt (refreshed queue n room j) n room i ≡ firstBelow (refreshed queue n room j) n room i
+  made-holds i p q d h = go (ℕ-discrete i j)
+    where
+      below : firstBelow (refreshed queue n room j) n room i ≡ firstBelow queue n room i
+      below = ap₂ firstOf (made-other (2 * i) (omega arith) (λ e. d (omega arith))) (made-other (2 * i + 1) (omega arith) (λ e. d (omega arith)))
+
+      go : Dec (i ≡ j) → entryAt (refreshed queue n room j) n room i ≡ firstBelow (refreshed queue n room j) n room i
+      go (yes e) = subst (λ y. entryAt (refreshed queue n room j) n room y ≡ firstBelow queue n room y) (sym e) made-node ∙ sym below
+      go (no e) = made-other i (omega arith) e ∙ h e ∙ sym below
+
+-- ---- the stores of one node
+
+both : (a b : Bool) → (a && b) ≡ true → (a ≡ true) × (b ≡ true)
+both true b e = (refl, e)
+both false b e = (e, cc)
+
+module _ (queue : List ℕ) (n room j : ℕ) (e : Entry) (is : e ≡ firstBelow queue n room j) where
+  pub stored-node : set (set queue (room + 2 * j) (e .key)) (room + 2 * j + 1) (e .slot) ≡ refreshed queue n room j
+  unfolding refreshed
+  stored-node = ap (λ x. set (set queue (room + 2 * j) (x .key)) (room + 2 * j + 1) (x .slot)) is
+
+  -- a node that holds it already needs no store
+  pub kept-node : (eqb (getD queue (room + 2 * j) 0) (e .key) && eqb (getD queue (room + 2 * j + 1) 0) (e .slot)) ≡ true → queue ≡ refreshed queue n room j
+  kept-node t =
+      let b = both (eqb (getD queue (room + 2 * j) 0) (e .key)) (eqb (getD queue (room + 2 * j + 1) 0) (e .slot)) t in
+      sym (set-getD queue (room + 2 * j + 1) 0)
+      ∙ ap₂ (λ q v. set q (room + 2 * j + 1) v) (sym (set-getD queue (room + 2 * j) 0) ∙ ap (set queue (room + 2 * j)) (eqb-true (getD queue (room + 2 * j) 0) (e .key) (b .0))) (eqb-true (getD queue (room + 2 * j + 1) 0) (e .slot) (b .1))
+      ∙ stored-node
+
+-- ---- a changed key
+
+-- every node but j holds the first of its children
+abbrev pub But : List ℕ → ℕ → ℕ → ℕ → Type 0
+But queue n room j = (i : ℕ) → 1 ≤ i → i < n → (i ≡ j → ⊥) → entryAt queue n room i ≡ firstBelow queue n room i
+
+-- on the way up from a changed key: only node j may not hold the first of its children
+pub record Climbing (queue₀ queue : List ℕ) (n room j : ℕ) : Type 0 where
+  pub sized : Sized n room (length queue)
+  pub long : length queue ≡ length queue₀
+  pub inside : j < n
+  pub but : But queue n room j
+  pub keys : (x : ℕ) → x < room → getD queue x 0 ≡ getD queue₀ x 0
+
+-- a new key breaks at most the node above it
+pub climb-start : (queue : List ℕ) (n room k v : ℕ) → Sized n room (length queue) → k < n → Tree queue n room → Climbing (set queue k v) (set queue k v) n room ((n + k) / 2)
+unfolding Tree
+climb-start queue n room k v S b H = record {
+  sized = subst (Sized n room) (sym (length-set queue k v)) S;
+  long = refl;
+  inside = omega arith;
+  but = λ i p q d. same i (omega arith) (omega arith) ∙ H i p q ∙ sym (ap₂ firstOf (same (2 * i) (omega arith) (λ e. d (omega arith))) (same (2 * i + 1) (omega arith) (λ e. d (omega arith))));
+  keys = λ x l. refl;
+}
+  where
+    same : (x : ℕ) → x < 2 * n → (x ≡ n + k → ⊥) → entryAt (set queue k v) n room x ≡ entryAt queue n room x
+    same x l d = go (decLt x n)
+      where
+        go : Dec (x < n) → entryAt (set queue k v) n room x ≡ entryAt queue n room x
+        go (yes y) =
+            at-node (set queue k v) n room x y
+            ∙ ap₂ (λ k s. record { key = k; slot = s }) (getD-set-other queue k (room + 2 * x) v 0 (λ e. omega (arith, S .within))) (getD-set-other queue k (room + 2 * x + 1) v 0 (λ e. omega (arith, S .within)))
+            ∙ sym (at-node queue n room x y)
+        go (no y) =
+            at-leaf (set queue k v) n room x (omega arith)
+            ∙ ap (λ k. record { key = k; slot = x - n }) (getD-set-other queue k (x - n) v 0 (λ e. d (omega arith)))
+            ∙ sym (at-leaf queue n room x (omega arith))
+
+module _ (queue₀ queue next : List ℕ) (n room j : ℕ) (C : Climbing queue₀ queue n room j) (pos : 0 < j) (e : next ≡ refreshed queue n room j) where
+  -- a node made from its children leaves at most the node above it
+  pub climb-up : Climbing queue₀ next n room (j / 2)
+  climb-up = subst (λ q. Climbing queue₀ q n room (j / 2)) (sym e) (record {
+    sized = subst (Sized n room) (sym (made-length queue n room (C .sized) j (C .inside))) (C .sized);
+    long = made-length queue n room (C .sized) j (C .inside) ∙ C .long;
+    inside = omega (arith, C .inside);
+    but = λ i p q d. made-holds queue n room (C .sized) j (C .inside) i p q d (C .but i p q);
+    keys = λ x l. made-keys queue n room (C .sized) j (C .inside) x l ∙ C .keys x l;
+  })
+
+  -- where the node is as it was, nothing is left to do
+  pub climb-stop : next ≡ queue → Climbing queue₀ next n room 0
+  climb-stop same = record {
+    sized = climb-up .sized;
+    long = climb-up .long;
+    inside = omega (arith, C .inside);
+    but = λ i p q d. go i p q (ℕ-discrete i (j / 2));
+    keys = climb-up .keys;
+  }
+    where
+      go : (i : ℕ) → 1 ≤ i → i < n → Dec (i ≡ j / 2) → entryAt next n room i ≡ firstBelow next n room i
+      go i p q (no d) = climb-up .but i p q d
+      go i p q (yes z) = subst (λ y. entryAt y n room i ≡ firstBelow y n room i) (sym same) (C .but i p q (λ x. omega arith))
+
+pub climb-end : (queue₀ queue : List ℕ) (n room j : ℕ) → j ≤ 0 → Climbing queue₀ queue n room j → Tree queue n room
+unfolding Tree
+climb-end queue₀ queue n room j z C i p q = C .but i p q (λ e. omega arith)
+
+-- ---- the whole tree
+
+-- on the way down from the last node: every node from j on holds the first of its children
+pub record Building (queue₀ queue : List ℕ) (n room j : ℕ) : Type 0 where
+  pub sized : Sized n room (length queue)
+  pub long : length queue ≡ length queue₀
+  pub inside : j ≤ n
+  pub done : (i : ℕ) → j ≤ i → i < n → entryAt queue n room i ≡ firstBelow queue n room i
+  pub keys : (x : ℕ) → x < room → getD queue x 0 ≡ getD queue₀ x 0
+
+pub build-start : (queue : List ℕ) (n room : ℕ) → Sized n room (length queue) → Building queue queue n room n
+build-start queue n room S = record { sized = S; long = refl; inside = omega arith; done = λ i a b. absurd (omega arith); keys = λ x l. refl }
+
+pub build-down : (queue₀ queue next : List ℕ) (n room j : ℕ) → Building queue₀ queue n room j → 1 < j → next ≡ refreshed queue n room (j - 1) → Building queue₀ next n room (j - 1)
+build-down queue₀ queue next n room j B pos e = subst (λ q. Building queue₀ q n room (j - 1)) (sym e) (record {
+  sized = subst (Sized n room) (sym (made-length queue n room (B .sized) (j - 1) b)) (B .sized);
+  long = made-length queue n room (B .sized) (j - 1) b ∙ B .long;
+  inside = omega (arith, B .inside);
+  done = λ i p q. made-holds queue n room (B .sized) (j - 1) b i (omega arith) q (λ z. omega arith) (λ d. B .done i (omega arith) q);
+  keys = λ x l. made-keys queue n room (B .sized) (j - 1) b x l ∙ B .keys x l;
+})
+  where
+    b : j - 1 < n
+    b = omega (arith, B .inside)
+
+pub build-end : (queue₀ queue : List ℕ) (n room j : ℕ) → j ≤ 1 → Building queue₀ queue n room j → Tree queue n room
+unfolding Tree
+build-end queue₀ queue n room j z B i p q = B .done i (omega arith) q

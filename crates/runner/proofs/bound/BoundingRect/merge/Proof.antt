@@ -1,0 +1,35 @@
+use mathlib.Core.Path.{sym, _∙_}
+use borrow.Author.Needs.{needs}
+use Rattle.rules.specs.State.{mergeRect}
+use Rattle.runner.proofs.bound.BoundingRect.merge.Statement.{statement}
+use Rattle.runner.proofs.bound.BoundingRect.merge.Tie as tie
+
+returns : tie.Need-returns
+unfolding mergeRect
+returns c = rw (sym (c .before .is-empty .ensures) ∙ c .if1 .taken)
+
+returns-2 : tie.Need-returns-2
+unfolding mergeRect
+returns-2 c = let a = c .before .before in
+    rw (sym (a .before .is-empty .ensures) ∙ a .if1 .left, sym (c .before .is-empty2 .ensures) ∙ c .if2 .taken)
+
+returns-3 : tie.Need-returns-3
+unfolding mergeRect
+returns-3 c =
+    let a = c .before .before .before .before in
+    let b = a .before .before in
+    rw (sym (b .before .is-empty .ensures) ∙ b .if1 .left, sym (a .before .is-empty2 .ensures) ∙ a .if2 .left) (cc)
+
+pub merge-spec : {M : Type 1} → statement M
+merge-spec =
+    tie.close
+    (tie.spec
+    (search needs)
+    returns
+    (search needs)
+    returns-2
+    (search needs)
+    (search needs)
+    (search needs)
+    (search needs)
+    returns-3)

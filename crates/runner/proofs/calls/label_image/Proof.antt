@@ -1,0 +1,56 @@
+use mathlib.Core.Path.{_≡_, sym, ap, _∙_}
+use Prim.Native.Nat.{_+_, _*_}
+use native.Mathlib.Omega.{arith}
+use borrow.Author.Needs.{needs}
+use lib.ListN.{length, replicate}
+use mir.Syntax.{w32}
+use mir.ValLaws.{toZ-ofZ}
+use Rattle.runner.proofs.Parts.{part-length}
+use Rattle.runner.proofs.Runs.{entered, can-stage2}
+use Rattle.runner.proofs.calls.label_image.Statement.{statement}
+use Rattle.runner.proofs.calls.label_image.Tie as tie
+
+shift-of-requires : tie.Need-shift-of-requires
+shift-of-requires c κs = search needs
+
+stage-1-requires : tie.Need-stage-1-requires
+stage-1-requires c κs =
+    let b = c .before .before .before .before .before .before .before .before .before .before .before in
+    let s = b .before .before .before .before .before .before .before .before .before .before in
+    let P = s .pre in
+    let I = P .image-fits in
+    let room = s .args .w * s .args .h + 1 in (
+      record {
+        shifted = sym (toZ-ofZ w32 (s .args .o .«is_same_color_a») (record { sfits = b .before .before .before .before .struct-told .given .0 .1 })) ∙ c .shift-of .ensures;
+        bytes = I .bytes;
+        whole = I .whole;
+        columns = I .columns;
+        rows = P .rows;
+        small = I .small;
+      },
+      record {
+        labels = b .blank .ensures .labels ∙ ap (λ n. replicate n 0) (P .labels);
+        links = b .blank .ensures .links ∙ ap (λ n. replicate n 0) (P .links);
+        table = P .table;
+        ends = part-length (b .blank .last .1 .1 .0) (3 * room) (5 * room) (omega (arith, b .blank .kept .1 .1 .0, P .work)) ∙ omega arith;
+      },
+    )
+
+returns : tie.Need-returns
+returns c =
+    let b = c .before .before .before .before .before .before .before .before .before .before .before .before .before .before .before .before .before .before .before .before in
+    let P = b .before .before .before .before .before .before .before .before .before .before .pre in
+    let H = c .before .before .before .before .before .before .before .before .stage-1 .ensures in
+    let long : length (b .blank .last .1 .1 .0) ≡ 8 * (b .before .before .before .before .before .before .before .before .before .before .args .w * b .before .before .before .before .before .before .before .before .before .before .args .h + 1) = b .blank .kept .1 .1 .0 ∙ P .work in (
+      entered (b .blank .last .1 .1 .0) (c .before .before .before .before .before .before .before .before .stage-1 .last .1 .1 .1 .1 .0) long (H .rep .room) (P .table) H,
+      can-stage2 (b .blank .last .1 .1 .0) (c .before .before .before .before .before .before .before .before .stage-1 .last .1 .1 .1 .1 .0) long (H .rep .room) _ (P .image-fits) (P .work) (b .blank .ensures .work),
+    )
+
+pub label-image-spec : {M : Type 1} → statement M
+label-image-spec =
+    tie.close
+    (tie.spec
+    (search needs) (search needs) (search needs) (search needs) (search needs) (search needs) (search needs) (search needs) (search needs) (search needs) shift-of-requires
+    stage-1-requires
+    (search needs) (search needs) (search needs) (search needs)
+    returns)

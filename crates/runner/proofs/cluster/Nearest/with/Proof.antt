@@ -1,0 +1,15 @@
+use borrow.Author.Needs.{needs}
+use Rattle.runner.specs.Neighbours.{added}
+use Rattle.runner.proofs.cluster.Nearest.with.Statement.{statement}
+use Rattle.runner.proofs.cluster.Nearest.with.Tie as tie
+
+returns : tie.Need-returns
+unfolding added
+returns c = rw (c .if1 .taken)
+
+returns-2 : tie.Need-returns-2
+unfolding added
+returns-2 c = rw (c .if1 .left)
+
+pub with-spec : {M : Type 1} → statement M
+with-spec = tie.close (tie.spec (search needs) returns returns-2)

@@ -1,0 +1,15 @@
+use mathlib.Core.Path.{sym, ap}
+use native.Mathlib.Omega.{arith}
+use Rattle.runner.specs.Queue.{stored}
+use Rattle.runner.proofs.Queues.{stored-some}
+use Rattle.runner.proofs.stage2.key_of.Statement.{statement}
+use Rattle.runner.proofs.stage2.key_of.Tie as tie
+
+returns : tie.Need-returns
+returns c = sym (ap stored (c .if1 .taken))
+
+returns-2 : tie.Need-returns-2
+returns-2 c = sym (stored-some _ (omega arith))
+
+pub key-of-spec : {M : Type 1} → statement M
+key-of-spec = tie.close (tie.spec returns returns-2)

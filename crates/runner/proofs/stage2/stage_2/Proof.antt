@@ -1,0 +1,150 @@
+use mathlib.Core.Path.{_≡_, refl, _∙_}
+use mathlib.Core.List.{List}
+use Prim.Native.Nat.{ℕ, _-_, _*_}
+use native.Mathlib.Omega.{arith}
+use lib.ListN.{length}
+use borrow.Author.Needs.{needs}
+use Rattle.rules.specs.Color.{RunnerConfig}
+use Rattle.runner.specs.declared.stage2.Turns.{Turns}
+use Rattle.runner.specs.Types.{configOf}
+use Rattle.runner.specs.Stage2.{Between}
+use Rattle.runner.proofs.Starting.{preparing-fits, building, started}
+use Rattle.runner.proofs.Turning.{picking, chooses, ends, turns-left}
+use Rattle.runner.proofs.stage2.stage_2.Statement.{statement}
+use Rattle.runner.proofs.stage2.stage_2.Tie as tie
+
+-- The buffers hold the rules' state before turn t .turns, if at first, with ₀, they held that before turn 0; and so they do for some t₀.
+record Running (o : RunnerConfig) (w h : ℕ) (image L₀ K₀ B₀ W₀ : List ℕ) (b : Turns) (L K B W : List ℕ) (t : Turns) : Type 0 where
+  some : (t₀ : List ℕ) × Between o w h image t₀ L K B W t
+  from : (t₀ : List ℕ) → Between o w h image t₀ L₀ K₀ B₀ W₀ b → Between o w h image t₀ L K B W t
+  labels : length L ≡ length L₀
+  links : length K ≡ length K₀
+  table : length B ≡ length B₀
+
+abbrev Inv-loop : tie.InvT-loop
+Inv-loop image labels₀ links₀ table₀ work₀ o w h n room r largest t₀ labels links table work t = Running (configOf o) w h image labels₀ links₀ table₀ work₀ t₀ labels links table work t
+
+abbrev μ-loop : tie.MeasureT-loop
+μ-loop image labels₀ links₀ table₀ work₀ o w h n room r largest t₀ labels links table work t = 2 * (w * h) - t .turns
+
+mul-room : tie.Need-mul-room Inv-loop μ-loop
+mul-room c = omega (arith, c .before .before .before .before .before .pre .0 .image-fits .small)
+
+add-room : tie.Need-add-room Inv-loop μ-loop
+add-room c = omega (arith, c .before .before .before .before .before .pre .0 .image-fits .small)
+
+cast-r : tie.Need-cast-r Inv-loop μ-loop
+cast-r c = omega (arith, c .before .before .before .before .before .pre .0 .image-fits .small)
+
+mul-prepare : tie.Need-mul-prepare Inv-loop μ-loop
+mul-prepare c = omega (arith, c .before .before .before .before .before .before .pre .0 .image-fits .small)
+
+part-prepare-end : tie.Need-part-prepare-end Inv-loop μ-loop
+part-prepare-end c = omega (arith, c .before .before .before .before .before .before .pre .0 .work)
+
+prepare-requires : tie.Need-prepare-requires Inv-loop μ-loop
+prepare-requires c κs = let p = c .before .before .before .before .before .before .before .pre in preparing-fits (p .0) (p .1 .1)
+
+mul-build : tie.Need-mul-build Inv-loop μ-loop
+mul-build c = omega (arith, c .before .before .before .before .before .before .before .before .before .before .before .before .pre .0 .image-fits .small)
+
+part-build-end : tie.Need-part-build-end Inv-loop μ-loop
+part-build-end c = let p = c .before .before .before .before .before .before .before .before .before .before .before .before .pre in let s = c .before .before .before .before .prepare in omega (arith, building (p .0) (p .1 .1) (s .ensures) (s .kept .1 .0) .0)
+
+build-requires : tie.Need-build-requires Inv-loop μ-loop
+build-requires c κs = let p = c .before .before .before .before .before .before .before .before .before .before .before .before .before .pre in let s = c .before .before .before .before .before .prepare in building (p .0) (p .1 .1) (s .ensures) (s .kept .1 .0) .1
+
+loop-holds : tie.Need-loop-holds Inv-loop μ-loop
+loop-holds c =
+    let p = c .before .before .before .before .before .before .before .before .before .before .before .before .before .before .before .before .pre in
+    let s = c .before .before .before .before .before .before .before .before .prepare in
+    let b = c .before .before .build in
+    record {
+      some = (p .1 .0, started (p .0) (p .1 .1) (s .ensures) (s .kept .1 .0) (b .ensures) (b .kept .0));
+      from = λ t₀ x. x;
+      labels = refl;
+      links = refl;
+      table = refl;
+    }
+
+mul-first : tie.Need-mul-first Inv-loop μ-loop
+mul-first c = omega (arith, c .loop .inv .some .1 .image-fits .small)
+
+part-first-end : tie.Need-part-first-end Inv-loop μ-loop
+part-first-end c = omega (arith, c .before .loop .inv .some .1 .carried .long)
+
+first-requires : tie.Need-first-requires Inv-loop μ-loop
+first-requires c κs = picking (c .before .before .before .loop .inv .some .1)
+
+same-length : tie.Need-same-length Inv-loop μ-loop
+same-length c = c .before .before .before .before .before .before .loop .inv .labels
+
+same-length-2 : tie.Need-same-length-2 Inv-loop μ-loop
+same-length-2 c = c .before .before .before .before .before .before .loop .inv .links
+
+same-length-3 : tie.Need-same-length-3 Inv-loop μ-loop
+same-length-3 c = c .before .before .before .before .before .before .loop .inv .table ∙ c .before .before .before .before .before .before .before .before .before .before .before .before .before .before .before .prepare .kept .0
+
+same-length-4 : tie.Need-same-length-4 Inv-loop μ-loop
+same-length-4 c = omega (arith, c .before .before .before .before .before .before .loop .inv .some .1 .carried .long, c .before .before .before .before .before .before .before .before .before .before .before .before .before .before .before .before .before .before .before .before .before .before .before .pre .0 .work)
+
+returns : tie.Need-returns Inv-loop μ-loop
+returns c = λ t₀ e.
+    let s = c .before .before .before .before .before .before .before .before .before .before .before .before .before .before .before .prepare in
+    let b = c .before .before .before .before .before .before .before .before .before .build in
+    ends (c .before .before .before .before .before .before .loop .inv .from t₀ (started (c .before .before .before .before .before .before .before .before .before .before .before .before .before .before .before .before .before .before .before .before .before .before .before .pre .0) e (s .ensures) (s .kept .1 .0) (b .ensures) (b .kept .0))) (c .before .before .first .ensures) (c .if1 .taken)
+
+turn-requires : tie.Need-turn-requires Inv-loop μ-loop
+turn-requires c κs = let i = c .before .before .before .before .before .before .before .before .before .before .loop .inv in (refl, (i .some, chooses (i .some .1) (c .before .before .before .before .before .before .first .ensures) (c .before .before .before .before .if1 .left)))
+
+loop-less : tie.Need-loop-less Inv-loop μ-loop
+loop-less c =
+    let i = c .before .before .before .before .before .before .before .before .before .before .before .before .before .before .before .before .before .before .before .loop .inv in
+    omega (arith, c .before .before .before .before .before .before .before .before .turn .ensures .1, turns-left (i .some .1) (chooses (i .some .1) (c .before .before .before .before .before .before .before .before .before .before .before .before .before .before .before .first .ensures) (c .before .before .before .before .before .before .before .before .before .before .before .before .before .if1 .left)))
+
+loop-again : tie.Need-loop-again Inv-loop μ-loop
+loop-again c =
+    let i = c .before .before .before .before .before .before .before .before .before .before .before .before .before .before .before .before .before .before .before .loop .inv in
+    let s = c .before .before .before .before .before .before .before .before .turn in
+    record {
+      some = (i .some .0, s .ensures .0 (i .some .0) (i .some .1));
+      from = λ t₀ x. s .ensures .0 t₀ (i .from t₀ x);
+      labels = s .kept .1 .0 ∙ i .labels;
+      links = s .kept .1 .1 .0 ∙ i .links;
+      table = s .kept .1 .1 .1 .0 ∙ i .table;
+    }
+
+pub stage-2-spec : {M : Type 1} → statement M
+stage-2-spec =
+    tie.close
+    (tie.spec
+    Inv-loop
+    μ-loop
+    mul-room
+    add-room
+    cast-r
+    mul-prepare
+    (search needs)
+    (search needs)
+    part-prepare-end
+    prepare-requires
+    mul-build
+    (search needs)
+    (search needs)
+    part-build-end
+    build-requires
+    loop-holds
+    mul-first
+    (search needs)
+    (search needs)
+    part-first-end
+    (search needs)
+    first-requires
+    same-length
+    same-length-2
+    same-length-3
+    same-length-4
+    returns
+    turn-requires
+    loop-less
+    loop-again)
