@@ -1,7 +1,7 @@
 // What the lent buffers hold before a call, and what they have to hold after it.
 use crate::reading;
-use color_clusters::Answer;
-use color_clusters::RunnerConfig;
+use runner::Answer;
+use runner::RunnerConfig;
 
 // The first n numbers of buffer, or all of it where it is shorter.
 pub fn cut(buffer: &mut [u32], n: usize) -> &mut [u32] {
@@ -97,7 +97,7 @@ pub fn run_filled(
     work: &mut [u32],
 ) -> Answer {
     fill_all(labels, links, table, outputs, work);
-    color_clusters::run(o, w, h, image, labels, links, table, outputs, work)
+    runner::run(o, w, h, image, labels, links, table, outputs, work)
 }
 
 // Runs and paints in buffers that are filled with the pattern.

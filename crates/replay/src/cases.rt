@@ -22,9 +22,9 @@ use crate::reading::signed;
 use crate::sheets::is_picture;
 use crate::sheets::is_sheet;
 use color::Color;
-use color_clusters::Answer;
-use color_clusters::KeyingAction;
-use color_clusters::RunnerConfig;
+use runner::Answer;
+use runner::KeyingAction;
+use runner::RunnerConfig;
 
 // The largest image that is replayed, in pixels.
 const LARGEST: usize = 2400;
@@ -171,7 +171,7 @@ fn is_kept(
     let length = 8 + 4 * pixels.len() + 4 * (slots.len() / SLOT) + 2 * entries.len();
     let sheet = cut_bytes(destination, length);
     fill_bytes(sheet);
-    let number = container::store(
+    let number = sheet::store(
         case.w,
         case.h,
         labels,

@@ -338,7 +338,7 @@ fn store(
     destination: &mut [u8],
 ) -> bool {
     fill_bytes(destination);
-    let number = container::store(
+    let number = sheet::store(
         e.w,
         e.h,
         labels,
@@ -415,8 +415,8 @@ fn row_at(k: u64) -> RowEdge {
 // Asks for a row, and answers whether it went right: its bytes are filled ones, from the right place on.
 fn ask(r: RowEdge, picture: &mut [u8]) -> bool {
     fill_bytes(picture);
-    let given = container::row(r.w, r.h, picture, r.y);
-    let number = container::row_check(r.w, r.h, picture, r.y);
+    let given = sheet::row(r.w, r.h, picture, r.y);
+    let number = sheet::row_check(r.w, r.h, picture, r.y);
     if r.number != 0 {
         return (number == r.number) & (given.len() == 0);
     }

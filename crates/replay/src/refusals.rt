@@ -8,9 +8,9 @@ use crate::buffers::run_and_paint_filled;
 use crate::buffers::run_filled;
 use crate::reading::part;
 use color::Color;
-use color_clusters::Answer;
-use color_clusters::KeyingAction;
-use color_clusters::RunnerConfig;
+use runner::Answer;
+use runner::KeyingAction;
+use runner::RunnerConfig;
 
 // A call: the shift, the size, the lengths that are lent, and the number that it has to answer.
 struct Edge {

@@ -22,18 +22,18 @@ fn are_same(a: &[u8], b: &[u8]) -> bool {
 
 // Whether every row of the picture is the recorded one, of which the first is at `at`, and the row after the last is refused.
 fn are_rows(s: &[u8], at: usize, w: u32, h: u32, picture: &[u8]) -> bool {
-    let mut same = container::row_check(w, h, picture, h) == 11;
+    let mut same = sheet::row_check(w, h, picture, h) == 11;
     let mut from = at;
     let mut y = 0;
     while y < h {
         let next = after_pixels(s, from, w as usize);
         same = same
-            & (container::row_check(w, h, picture, y) == 0)
-            & are_same(container::row(w, h, picture, y), part(s, from, next));
+            & (sheet::row_check(w, h, picture, y) == 0)
+            & are_same(sheet::row(w, h, picture, y), part(s, from, next));
         from = next;
         y += 1;
     }
-    same & (container::row(w, h, picture, h).len() == 0)
+    same & (sheet::row(w, h, picture, h).len() == 0)
 }
 
 // Whether a picture is the one that is recorded at a place, as a whole and row by row.

@@ -30,4 +30,4 @@ returns c =
 pub run-then-paint-spec : {M : Type 1} → statement M
 run-then-paint-spec =
     tie.close
-    (tie.spec (search needs) (search needs) (search needs) (search needs) (search needs) (search needs) (search needs) returns)
+    (tie.spec (search needs) (search needs) (search needs) (search needs) (search needs) (search needs) (search needs) (search needs) returns)
