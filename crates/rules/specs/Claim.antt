@@ -1,5 +1,4 @@
--- The words that demand 3 is said with: how often a list names a pixel, totals, counts, standing, holding.
---
+-- The words that demand 3 is said with: how often a list names a pixel, totals, counts, standing, holding (document 01, "The ledger of demand 3").
 use mathlib.Core.Path.{_≡_}
 use mathlib.Core.Logic.{_↔_, _≢_, _⊎_}
 use mathlib.Core.Bool.{Bool, true, false}
@@ -31,10 +30,11 @@ unfoldable pub countOf : (ℕ → Bool) → ℕ → ℕ
 countOf f zero = 0
 countOf f (suc n) = bit (f n) + countOf f n
 
+-- k stands: it holds a pixel
 abbrev pub Stands : Held → ℕ → Type 0
 Stands h k = (p : ℕ) × T (h k p)
 
--- k holds j
+-- k holds j: it holds all its pixels
 abbrev pub Holds : Held → ℕ → ℕ → Type 0
 Holds h k j = (p : ℕ) → T (h j p) → T (h k p)
 

@@ -1,4 +1,5 @@
--- Colours, sums of colours, the settings, and the two questions asked of colours: whether they are like, and how far they differ (color.rs, runner.rs).
+-- Colours, sums of colours, the settings, and the two questions asked of colours: whether they are like, and how far they differ (color.rs, runner.rs;
+-- document 01: the settings, "The label of each pixel", "The output order", and the average of "The picture, its rows, the stored sheet").
 use mathlib.Core.Bool.{Bool, true, false, not, _&&_, _||_}
 use mathlib.Core.List.{List, [], _∷_}
 use mathlib.Core.Option.{Option, none, some}

@@ -1,4 +1,5 @@
--- The neighbours of a pixel in an image of w columns and h rows: row y, column x is pixel w * y + x. A pixel off the image is none.
+-- The neighbours of a pixel in an image of w columns and h rows: row y, column x is pixel w * y + x. A pixel off the image is none
+-- (document 01, "The label of each pixel" and "The output order").
 use mathlib.Core.Bool.{Bool, true, false}
 use mathlib.Core.List.{List, [], _∷_}
 use mathlib.Core.Option.{Option, none, some}

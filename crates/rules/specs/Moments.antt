@@ -1,5 +1,4 @@
 -- The moments of a run at which demand 3 is claimed: the end of stage 1, and the state after every later merge.
---
 use mathlib.Core.Bool.{Bool, true, false}
 use mathlib.Core.List.{List, [], _∷_, _++_}
 use Prim.Native.Nat.{ℕ, zero, suc, _*_}

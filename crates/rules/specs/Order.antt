@@ -1,7 +1,6 @@
 -- Stage 2 told in other ways, shown equal to Stage2, for code to follow.
 -- The visiting order told by keys: a slot that is pending has its pixel count for a key, any other 0. The least key, and of several the
 -- first, is taken off and visited at that count; where it merged, its target is pending again. Stage 2 is this until no slot is pending.
---
 use mathlib.Core.Bool.{Bool, true, false, not, _&&_, _||_}
 use mathlib.Core.List.{List, [], _∷_, map}
 use mathlib.Core.Option.{Option, some}

@@ -1,4 +1,4 @@
--- The whole run: stage 1, stage 2, and the outputs that are left (`Runner::run`).
+-- The whole run: stage 1, stage 2, and the outputs that are left (`Runner::run`; document 01, "The output order").
 use mathlib.Core.Bool.{Bool, true, false, not}
 use mathlib.Core.List.{List, [], _∷_, _++_}
 use Prim.Native.Nat.{ℕ, zero, suc, _+_, _*_}
