@@ -1,13 +1,13 @@
 -- Small examples of what the sheets worked by hand do not show: likeness, averages, the pixel at a place, rectangles, the boundary. Computed.
 use mathlib.Core.Path.{_≡_, refl}
 use mathlib.Core.Bool.{true, false}
-use mathlib.Core.List.{List, [], _∷_, map}
+use mathlib.Core.List.{List, [], _∷_}
 use mathlib.Core.Option.{Option, some, none}
 use Prim.Native.Nat.{ℕ}
 use lib.IntN.{pos, negsuc}
 use lib.ListN.{replicate}
 use Rattle.rules.specs.Base.{upTo}
-use Rattle.rules.specs.Color.{Color, ColorSum, rgba, pixelAt, averageOrNone, isSame, colorDiff, exceeds}
+use Rattle.rules.specs.Color.{Color, rgba, pixelAt, averageOrNone, isSame, colorDiff, exceeds}
 use Rattle.rules.specs.State.{State, Cluster, BoundingRect, newCluster, pixelRect, emptyRect, mergeRect}
 use Rattle.rules.specs.Stage2.{boundary}
 use Rattle.rules.specs.Worked.{total}

@@ -1,9 +1,9 @@
 -- The state of a run: labels, clusters, the next free number, the outputs, the areas listed, and the log of what was decided
 -- (cluster.rs, bound.rs, builder.rs; document 01, "The cluster table and its lists"). Whatever is decided changes the state by one function of this file, which also logs it.
-use mathlib.Core.Bool.{Bool, true, false, not, _&&_, _||_}
-use mathlib.Core.List.{List, [], _∷_, _++_, map}
-use Prim.Native.Nat.{ℕ, zero, suc, _+_, _-_, _*_, _/_, _%_, min, max}
-use lib.Dec.{leb, ltb, eqb}
+use mathlib.Core.Bool.{Bool, _&&_}
+use mathlib.Core.List.{List, [], _∷_, _++_}
+use Prim.Native.Nat.{ℕ, _+_, min, max}
+use lib.Dec.{ltb, eqb}
 use lib.ListN.{length, getD, set, replicate}
 use Rattle.rules.specs.Base.{if_then_else_, each, insert}
 use Rattle.rules.specs.Color.{Color, ColorSum, zeroSum, one, _⊕_}
