@@ -8,7 +8,7 @@ use lib.ListN.{length, replicate}
 use Rattle.rules.specs.Color.{ColorSum, RunnerConfig, rgba, Keep}
 use Rattle.rules.specs.Paint.{Painted}
 use Rattle.rules.specs.Refusals.{runAnswer, runAndPaintAnswer, rowAnswer, sumAnswer, paintAnswer, storeAnswer}
-use Rattle.rules.specs.Calls.{paintCall, storeCall, rowCall, sumCall, StoredSheet}
+use Rattle.rules.specs.Calls.{Buffers, runCall, paintCall, storeCall, rowCall, sumCall, StoredSheet}
 use Rattle.rules.specs.Worked.{all}
 
 abbrev shifted : ℤ → RunnerConfig
@@ -43,6 +43,14 @@ pub run-edges : lent 8 2 2 63 4 24 ∷ lent 8 3 3 64 5 25 ∷ lent 9 2 2 63 4 24
     ≡ 0 ∷ 0 ∷ 4 ∷ 4 ∷ 5 ∷ 5 ∷ 5 ∷ 5 ∷ 5 ∷ []
 unfolding runAnswer
 run-edges = refl
+
+-- a refused run: its number, zero counts, and no buffer changes
+abbrev lentNines : Buffers
+lentNines = record { labels = 9 ∷ []; links = 9 ∷ []; table = replicate 42 9; outputs = 9 ∷ 9 ∷ []; work = replicate 16 9 }
+
+pub run-refused : runCall (shifted (pos 8)) 1 1 (1 ∷ 2 ∷ 3 ∷ 4 ∷ []) lentNines ≡ record { number = 1; n = 0; m = 0; buffers = lentNines }
+unfolding runCall
+run-refused = refl
 
 -- run and painting in one call, 1 × 1: 6 after 5
 pub run-and-paint-edges : runAndPaintAnswer 1 1 (shifted (pos 4)) 4 1 1 42 2 16 4 ∷ runAndPaintAnswer 1 1 (shifted (pos 4)) 4 1 1 42 2 16 5
