@@ -1,4 +1,4 @@
--- A cluster with no neighbour, on a image where no label is 0, covers the image.
+-- A cluster with no neighbour, on an image where no label is 0, covers the image.
 use mathlib.Core.Path.{_≡_, refl, sym, ap, _∙_, subst}
 use mathlib.Core.Logic.{_≢_, _⊎_, inl, inr}
 use mathlib.Core.Bool.{Bool, true, false, _||_, true≢false}

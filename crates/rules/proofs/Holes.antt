@@ -1,5 +1,5 @@
--- Hole children: a cluster that names one is the cluster it deepened into, and names it once.
-use mathlib.Core.Path.{_≡_, sym, ap, _∙_, subst}
+-- Hole children: a cluster that names one is the cluster it deepened into, and names it once; a cluster that deepened never changes again.
+use mathlib.Core.Path.{_≡_, refl, sym, ap, _∙_, subst}
 use mathlib.Core.Logic.{_≢_}
 use mathlib.Core.Bool.{Bool, true, false}
 use mathlib.Core.List.{List, [], _∷_, _++_}
@@ -17,7 +17,7 @@ use Rattle.rules.specs.Order.{start, turns}
 use Rattle.rules.specs.Claim.{bit, occurs}
 use Rattle.rules.proofs.Facts.{eqb-yes, eqb-no, occurs-append}
 use Rattle.rules.proofs.Basic.{three, merge-f, merge-t, merge-moved, deepen-f, deepen-t, deepen-moved}
-use Rattle.rules.proofs.Visits.{Going, Near, visit-cases, isolated-cases, root, k≢t, k-slot, t-slot}
+use Rattle.rules.proofs.Visits.{Going, Near, visit-cases, isolated-cases, root, target-root, k≢t, k-slot, t-slot}
 use Rattle.rules.proofs.Early.{settled}
 use Rattle.rules.proofs.Slots.{stage1-slots}
 use Rattle.rules.proofs.Order.{turns-keep, start-turning}
@@ -139,6 +139,21 @@ pub visit-holes : {image : List ℕ} {size : ℕ} (o : RunnerConfig) (w h a k : 
 visit-holes o w h a k s G pos e H =
     visit-cases o w h a k s Holes (λ x. H) (λ z l. put-holes k s H) (λ z l n. isolated-cases o w h a k s Holes (put-holes k s H) H)
     (λ z l t N. merge-holes a k s G pos e t N H) (λ z l t N b. deepen-holes a k s G pos e t N b H)
+
+-- a cluster that deepened into another is left as it is by every later visit: the list of a hole child is the one it had as it deepened, which is what the Rust's `holes` copied
+pub deepened-stays : {image : List ℕ} {size : ℕ} (o : RunnerConfig) (w h a k : ℕ) (s : State) → Going image size a k s → 0 < a → (c : ℕ) → cluster s c .mergedInto ≢ 0
+    → cluster (visit o w h a k s) c ≡ cluster s c
+unfolding put
+deepened-stays o w h a k s G pos c d =
+    visit-cases o w h a k s (λ u. cluster u c ≡ cluster s c) (λ x. refl) (λ z l. refl) (λ z l n. isolated-cases o w h a k s (λ u. cluster u c ≡ cluster s c) refl refl)
+    (λ z l t N. merge-moved k t s (k≢t a k s G pos z t N) (k-slot a k s G pos z t N) (t-slot a k s G pos z t N) .other c (not-k z) (not-t z t N))
+    (λ z l t N b. deepen-moved k t s (k≢t a k s G pos z t N) (k-slot a k s G pos z t N) (t-slot a k s G pos z t N) b .other c (not-k z) (not-t z t N))
+  where
+    not-k : area (cluster s k) ≡ a → c ≢ k
+    not-k z y = d (subst (λ j. cluster s j .mergedInto ≡ 0) (sym y) (root a k s G pos z))
+
+    not-t : area (cluster s k) ≡ a → (t : ℕ) → Near s (label s (getD (cluster s k .pixels) 0 0)) t → c ≢ t
+    not-t z t N y = d (subst (λ j. cluster s j .mergedInto ≡ 0) (sym y) (target-root a k s G pos z t N))
 
 pub prepareStage2-holes : (o : RunnerConfig) (w h : ℕ) (image : List ℕ) → Holes (prepareStage2 (stage1 o w h image))
 unfolding withResidue

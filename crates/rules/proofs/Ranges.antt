@@ -1,15 +1,15 @@
 -- Every number of a run is in its range, at every moment, before every turn, and at the end.
 use mathlib.Core.Path.{_≡_, refl, sym, ap, _∙_, subst}
 use mathlib.Core.Logic.{_≢_, _⊎_, inl, inr}
-use mathlib.Core.Bool.{Bool, true, false, not, _&&_}
+use mathlib.Core.Bool.{Bool, true, false, not, _&&_, _||_}
 use mathlib.Core.List.{List, [], _∷_, _++_, map}
 use Prim.Native.Nat.{ℕ, zero, suc, _+_, _*_, _≤_, _<_}
 use native.Mathlib.Decide.{ℕ-discrete, decLt}
 use native.Mathlib.Omega.{arith}
-use lib.Dec.{T, eqb, ltb, lt→ltb, ltb→lt}
+use lib.Dec.{T, eqb, ltb, lt→ltb, ltb→lt, eqb→eq}
 use lib.ListN.{length, getD, length-append, length-map, List·getD-eq-default}
 use Rattle.rules.specs.Base.{if_then_else_, keep}
-use Rattle.rules.specs.Color.{RunnerConfig, ColorSum, _⊕_, keyingOn}
+use Rattle.rules.specs.Color.{RunnerConfig, ColorSum, one, _⊕_, pixel, keyingOn}
 use Rattle.rules.specs.State.{State, Cluster, newCluster, cluster, label, area, emptied, withCluster, mergedTo, deeper, withResidue, put, merge, deepen, plain, deepened}
 use Rattle.rules.specs.Stage1.{taken}
 use Rattle.rules.specs.Stage2.{visit, prepareStage2}
@@ -22,8 +22,8 @@ use Rattle.rules.specs.Moments.{moments, Each}
 use Rattle.rules.specs.Order.{start, turns}
 use Rattle.rules.specs.Ranges.{Fits, OnImage, Below, Ranged}
 use Rattle.rules.specs.Demand3.{Discarded, Agrees}
-use Rattle.rules.proofs.Facts.{is-false, standing, T-bit, bit-T, eqb-yes, countOf-le}
-use Rattle.rules.proofs.Basic.{Basic, Moved, three, plain-to, deepened-to, merge-f, merge-t, merge-moved, deepen-f, deepen-t, deepen-moved}
+use Rattle.rules.proofs.Facts.{is-false, standing, T-bit, bit-T, eqb-yes, countOf-le, tally-or, tally-one}
+use Rattle.rules.proofs.Basic.{Basic, Moved, three, plain-to, plain-up, deepened-to, merge-f, merge-t, merge-moved, deepen-f, deepen-t, deepen-moved}
 use Rattle.rules.proofs.Sound.{Sound}
 use Rattle.rules.proofs.Visits.{Going, Near, visit-cases, isolated-cases, stands, root, k≢t, k-slot, t-slot, target-root, target-stands, merge-going, deepen-going}
 use Rattle.rules.proofs.Early.{Early, settled}
@@ -333,7 +333,7 @@ pub fits-total : (size : ℕ) (x : ColorSum) → size ≤ 1048576 → Fits size 
     → (x .r ≤ largestTotal) × (x .g ≤ largestTotal) × (x .b ≤ largestTotal) × (x .a ≤ largestTotal) × (x .count ≤ largestTotal)
 fits-total size x l F = (omega (arith, F .r, F .count), omega (arith, F .g, F .count), omega (arith, F .b, F .count), omega (arith, F .a, F .count), omega (arith, F .count))
 
--- so refusal 7 is never met
+-- so refusal 7 is never met where what is left is such a total
 pub never-seven : (size : ℕ) (x y : ColorSum) → size ≤ 1048576 → Fits size (x ⊕ y) → sumAnswer x y ≡ 0
 unfolding sumAnswer _⊕_
 never-seven size x y l F =
@@ -342,3 +342,44 @@ never-seven size x y l F =
   where
     not-above : (z : ℕ) → z ≤ largestTotal → ltb largestTotal z ≡ false
     not-above z l = is-false (ltb largestTotal z) (λ t. omega (arith, ltb→lt largestTotal z t))
+
+-- No addition of a run meets refusal 7: not that of a pixel or the merge of two clusters in stage 1 (Early holds after every pixel: `early-at`), not the merge of
+-- two sums in stage 2, nor of two residues (Going holds before every visit).
+module _ (image : List ℕ) (bytes : (i : ℕ) → getD image i 0 ≤ 255) {size : ℕ} (few : size ≤ 1048576) where
+  module _ {Gone : ℕ → Type 0} {Keyed : Type 0} (i : ℕ) (s : State) (E : Early image size Gone Keyed i s) where
+    pub add-never-seven : (k : ℕ) → i < size → sumAnswer (cluster s k .sum) (one (pixel image i)) ≡ 0
+    add-never-seven k l = never-seven size (cluster s k .sum) (one (pixel image i)) few (subst (Fits size) total (tally-fits image bytes (λ q. ledger (s .log) k q || eqb q i) size))
+      where
+        apart : (p : ℕ) → T (ledger (s .log) k p) → T (eqb p i) → ⊥
+        apart p a b = let y : p ≡ i = eqb→eq p i b in omega (arith, E .before k p a)
+
+        total : tally image (λ q. ledger (s .log) k q || eqb q i) size ≡ cluster s k .sum ⊕ one (pixel image i)
+        total =
+            tally-or image (ledger (s .log) k) (λ q. eqb q i) apart size ∙ ap (λ x. x ⊕ tally image (λ q. eqb q i) size) (sym (E .basic .sums k))
+            ∙ ap (λ y. cluster s k .sum ⊕ y) (tally-one image i size l)
+
+    pub combine-never-seven : (f t : ℕ) → f ≢ t → sumAnswer (cluster s t .sum) (cluster s f .sum) ≡ 0
+    combine-never-seven f t n = never-seven size (cluster s t .sum) (cluster s f .sum) few (subst (Fits size) total (tally-fits image bytes (λ q. ledger (s .log) t q || ledger (s .log) f q) size))
+      where
+        apart : (p : ℕ) → T (ledger (s .log) t p) → T (ledger (s .log) f p) → ⊥
+        apart p a b = n (sym (E .flats f p b) ∙ E .flats t p a)
+
+        total : tally image (λ q. ledger (s .log) t q || ledger (s .log) f q) size ≡ cluster s t .sum ⊕ cluster s f .sum
+        total =
+            tally-or image (ledger (s .log) t) (ledger (s .log) f) apart size ∙ ap (λ x. x ⊕ tally image (ledger (s .log) f) size) (sym (E .basic .sums t))
+            ∙ ap (λ y. cluster s t .sum ⊕ y) (sym (E .basic .sums f))
+
+  pub merge-never-seven : (a k : ℕ) (s : State) → Going image size a k s → 0 < a → area (cluster s k) ≡ a → (t : ℕ) → Near s (label s (getD (cluster s k .pixels) 0 0)) t
+      → (sumAnswer (cluster s t .sum) (cluster s k .sum) ≡ 0) × (sumAnswer (cluster s t .residue) (cluster s k .residue) ≡ 0)
+  unfolding merge withResidue
+  merge-never-seven a k s G pos e t N =
+      let S = merge-going a k s G pos e t N .sound in
+      let t-is = merge-t k t s (k≢t a k s G pos e t N) (k-slot a k s G pos e t N) (t-slot a k s G pos e t N) in
+      let M = merge-moved k t s (k≢t a k s G pos e t N) (k-slot a k s G pos e t N) (t-slot a k s G pos e t N) in
+      let z = target-stands a k s G pos e t N in (
+        never-seven size (cluster s t .sum) (cluster s k .sum) few (subst (Fits size) (M .t-sum) (sum-fits image bytes (S .basic) t)),
+        never-seven size (cluster s t .residue) (cluster s k .residue) few (subst (Fits size) (ap (λ c. c .residue) t-is) (residue-fits image bytes S t (stood z))),
+      )
+    where
+      stood : Stands (ledger (s .log)) t → Stands (ledger (merge k t s .log)) t
+      stood z = (z .0, plain-up (ledger (s .log)) k t (k≢t a k s G pos e t N) t (z .0) (λ y. k≢t a k s G pos e t N (sym y)) (z .1))

@@ -1,6 +1,6 @@
--- What each public call answers and leaves in the buffers that it is lent, for every input: a refused call changes nothing.
-use mathlib.Core.Bool.{Bool, true, false, not}
-use mathlib.Core.List.{List, [], _∷_, _++_}
+-- What each public call answers and leaves in the buffers that it is lent, for every input: a refused call changes nothing
+-- (document 01, "The two initials", a).
+use mathlib.Core.List.{List, _++_}
 use Prim.Native.Nat.{ℕ, _+_, _*_}
 use lib.Dec.{eqb}
 use lib.ListN.{length, take, drop, replicate}

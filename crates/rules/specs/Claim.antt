@@ -1,15 +1,13 @@
--- The words that demand 3 is said with: how often a list names a pixel, totals, counts, standing, holding.
---
-use mathlib.Core.Path.{_≡_}
-use mathlib.Core.Logic.{_↔_, _≢_, _⊎_}
+-- The words that demand 3 is said with: how often a list names a pixel, totals, counts, standing, holding (document 01, "The ledger of demand 3").
+use mathlib.Core.Logic.{_≢_}
 use mathlib.Core.Bool.{Bool, true, false}
 use mathlib.Core.List.{List, [], _∷_}
 use Prim.Native.Nat.{ℕ, zero, suc, _+_, _*_, _≤_, _<_}
 use lib.Dec.{T, eqb}
 use lib.ListN.{length}
 use Rattle.rules.specs.Base.{if_then_else_}
-use Rattle.rules.specs.Color.{Color, ColorSum, zeroSum, one, _⊕_, pixel, average}
-use Rattle.rules.specs.State.{State, Cluster, cluster, label}
+use Rattle.rules.specs.Color.{ColorSum, zeroSum, one, _⊕_, pixel}
+use Rattle.rules.specs.State.{Cluster}
 use Rattle.rules.specs.Ledger.{Held}
 
 abbrev pub bit : Bool → ℕ
@@ -31,10 +29,11 @@ unfoldable pub countOf : (ℕ → Bool) → ℕ → ℕ
 countOf f zero = 0
 countOf f (suc n) = bit (f n) + countOf f n
 
+-- k stands: it holds a pixel
 abbrev pub Stands : Held → ℕ → Type 0
 Stands h k = (p : ℕ) × T (h k p)
 
--- k holds j
+-- k holds j: it holds all its pixels
 abbrev pub Holds : Held → ℕ → ℕ → Type 0
 Holds h k j = (p : ℕ) → T (h j p) → T (h k p)
 

@@ -1,8 +1,9 @@
--- Colours, sums of colours, the settings, and the two questions asked of colours: whether they are like, and how far they differ (color.rs, runner.rs).
-use mathlib.Core.Bool.{Bool, true, false, not, _&&_, _||_}
-use mathlib.Core.List.{List, [], _∷_}
+-- Colours, sums of colours, the settings, and the two questions asked of colours: whether they are like, and how far they differ (color.rs, runner.rs;
+-- document 01: the settings, "The label of each pixel", "The output order", and the average of "The picture, its rows, the stored sheet").
+use mathlib.Core.Bool.{Bool, true, false, not, _&&_}
+use mathlib.Core.List.{List}
 use mathlib.Core.Option.{Option, none, some}
-use Prim.Native.Nat.{ℕ, zero, suc, _+_, _-_, _*_, _/_, _^_}
+use Prim.Native.Nat.{ℕ, _+_, _*_, _/_, _^_}
 use lib.Dec.{leb, ltb, eqb}
 use lib.ListN.{length, getD}
 use lib.IntN.{ℤ, pos, negsuc}

@@ -1,13 +1,14 @@
 -- The refusals at their edges: the cases of document 01, and each further number where it first appears and where it wins over a later one. Computed.
 use mathlib.Core.Path.{_≡_, refl}
-use mathlib.Core.List.{List, [], _∷_, _++_}
+use mathlib.Core.Bool.{true, false}
+use mathlib.Core.List.{List, [], _∷_, _++_, map}
 use Prim.Native.Nat.{ℕ, _+_, _*_}
 use lib.IntN.{ℤ, pos, negsuc}
 use lib.ListN.{length, replicate}
 use Rattle.rules.specs.Color.{ColorSum, RunnerConfig, rgba, Keep}
 use Rattle.rules.specs.Paint.{Painted}
-use Rattle.rules.specs.Refusals.{runAnswer, runAndPaintAnswer, rowAnswer, sumAnswer, paintAnswer}
-use Rattle.rules.specs.Calls.{paintCall, storeCall, rowCall, sumCall, StoredSheet}
+use Rattle.rules.specs.Refusals.{runAnswer, runAndPaintAnswer, rowAnswer, sumAnswer, paintAnswer, storeAnswer}
+use Rattle.rules.specs.Calls.{Buffers, runCall, paintCall, storeCall, rowCall, sumCall, StoredSheet}
 use Rattle.rules.specs.Worked.{all}
 
 abbrev shifted : ℤ → RunnerConfig
@@ -42,6 +43,14 @@ pub run-edges : lent 8 2 2 63 4 24 ∷ lent 8 3 3 64 5 25 ∷ lent 9 2 2 63 4 24
     ≡ 0 ∷ 0 ∷ 4 ∷ 4 ∷ 5 ∷ 5 ∷ 5 ∷ 5 ∷ 5 ∷ []
 unfolding runAnswer
 run-edges = refl
+
+-- a refused run: its number, zero counts, and no buffer changes
+abbrev lentNines : Buffers
+lentNines = record { labels = 9 ∷ []; links = 9 ∷ []; table = replicate 42 9; outputs = 9 ∷ 9 ∷ []; work = replicate 16 9 }
+
+pub run-refused : runCall (shifted (pos 8)) 1 1 (1 ∷ 2 ∷ 3 ∷ 4 ∷ []) lentNines ≡ record { number = 1; n = 0; m = 0; buffers = lentNines }
+unfolding runCall
+run-refused = refl
 
 -- run and painting in one call, 1 × 1: 6 after 5
 pub run-and-paint-edges : runAndPaintAnswer 1 1 (shifted (pos 4)) 4 1 1 42 2 16 4 ∷ runAndPaintAnswer 1 1 (shifted (pos 4)) 4 1 1 42 2 16 5
@@ -95,7 +104,7 @@ pub row-edges : rowCall 1 2 rows 0 ∷ rowCall 1 2 rows 1 ∷ rowCall 1 2 rows 2
 unfolding rowCall
 row-edges = refl
 
-pub row-answers : rowAnswer 1 2 8 1 ∷ rowAnswer 1 2 8 2 ∷ rowAnswer 1 2 7 2 ∷ rowAnswer 1 0 0 0 ∷ [] ≡ 0 ∷ 11 ∷ 6 ∷ 2 ∷ []
+pub row-answers : rowAnswer 1 2 8 1 ∷ rowAnswer 1 2 8 2 ∷ rowAnswer 1 2 7 2 ∷ rowAnswer 1 0 0 0 ∷ rowAnswer 1 65001 0 0 ∷ [] ≡ 0 ∷ 11 ∷ 6 ∷ 2 ∷ 3 ∷ []
 unfolding rowAnswer
 row-answers = refl
 
@@ -112,6 +121,23 @@ pub store-edges : stored 65535 18 ∷ stored 65536 18 ∷ stored 65536 17 ∷ st
 unfolding storeCall
 store-edges = refl
 
+-- link, first pixel, pixel count and output of one sheet: each is a number to be stored
+abbrev storing : ℕ → ℕ → ℕ → ℕ → ℕ
+storing link first count entry =
+    storeCall 1 1 (0 ∷ []) (link ∷ []) ((first ∷ count ∷ []) ++ replicate 40 0) (entry ∷ 0 ∷ []) (replicate 18 9) 1 1 .answer
+
+pub store-large : storing 65535 65535 65535 65535 ∷ storing 65536 0 0 0 ∷ storing 0 65536 0 0 ∷ storing 0 0 65536 0 ∷ storing 0 0 0 65536 ∷ [] ≡ 0 ∷ 12 ∷ 12 ∷ 12 ∷ 12 ∷ []
+unfolding storeCall
+store-large = refl
+
+-- storing, 1 × 1, lent so many labels, links, table numbers and outputs, with these n and m; 5 before 12
+pub store-lengths : storeAnswer 1 1 1 1 42 2 20 2 2 false 20 ∷ storeAnswer 1 1 0 1 42 2 20 2 2 true 20 ∷ storeAnswer 1 1 1 0 42 2 20 2 2 true 20
+    ∷ storeAnswer 1 1 1 1 41 2 20 2 2 true 20 ∷ storeAnswer 1 1 1 1 42 1 20 2 2 true 20 ∷ storeAnswer 1 1 1 1 42 2 20 3 2 true 20 ∷ storeAnswer 1 1 1 1 42 2 20 2 3 true 20
+    ∷ storeAnswer 1 0 0 0 0 0 0 0 0 true 1 ∷ storeAnswer 65001 1 0 0 0 0 0 0 0 true 1 ∷ []
+    ≡ 0 ∷ 5 ∷ 5 ∷ 5 ∷ 5 ∷ 5 ∷ 5 ∷ 2 ∷ 3 ∷ []
+unfolding storeAnswer
+store-lengths = refl
+
 -- a sum at the largest total, and one that would pass it
 abbrev red : ℕ → ColorSum
 red r = record { r = r; g = 0; b = 0; a = 0; count = 1 }
@@ -119,6 +145,19 @@ red r = record { r = r; g = 0; b = 0; a = 0; count = 1 }
 pub sum-edges : sumAnswer (red 4294967294) (red 1) ∷ sumAnswer (red 4294967295) (red 1) ∷ [] ≡ 0 ∷ 7 ∷ []
 unfolding sumAnswer
 sum-edges = refl
+
+-- each of the five numbers is looked at
+abbrev five : ℕ → List ColorSum
+five x =
+    record { r = x; g = 0; b = 0; a = 0; count = 0 } ∷ record { r = 0; g = x; b = 0; a = 0; count = 0 } ∷ record { r = 0; g = 0; b = x; a = 0; count = 0 }
+    ∷ record { r = 0; g = 0; b = 0; a = x; count = 0 } ∷ record { r = 0; g = 0; b = 0; a = 0; count = x } ∷ []
+
+abbrev ones : ColorSum
+ones = record { r = 1; g = 1; b = 1; a = 1; count = 1 }
+
+pub sum-numbers : map (sumAnswer ones) (five 4294967294) ++ map (sumAnswer ones) (five 4294967295) ≡ (0 ∷ 0 ∷ 0 ∷ 0 ∷ 0 ∷ []) ++ (7 ∷ 7 ∷ 7 ∷ 7 ∷ 7 ∷ [])
+unfolding sumAnswer
+sum-numbers = refl
 
 pub sum-left : sumCall (red 4294967295) (red 1) ≡ red 4294967295
 unfolding sumCall

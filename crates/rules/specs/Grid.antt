@@ -1,9 +1,9 @@
--- The neighbours of a pixel in an image of w columns and h rows: row y, column x is pixel w * y + x. A pixel off the image is none.
-use mathlib.Core.Bool.{Bool, true, false}
+-- The neighbours of a pixel in an image of w columns and h rows: row y, column x is pixel w * y + x. A pixel off the image is none
+-- (document 01, "The label of each pixel" and "The output order").
 use mathlib.Core.List.{List, [], _∷_}
 use mathlib.Core.Option.{Option, none, some}
-use Prim.Native.Nat.{ℕ, zero, suc, _+_, _-_, _*_, _/_, _%_}
-use lib.Dec.{leb, ltb, eqb}
+use Prim.Native.Nat.{ℕ, _+_, _-_, _*_, _%_}
+use lib.Dec.{leb, ltb}
 use Rattle.rules.specs.Base.{if_then_else_}
 
 unfoldable pub up : ℕ → ℕ → Option ℕ

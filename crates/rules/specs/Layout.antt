@@ -3,10 +3,10 @@
 use mathlib.Core.List.{List, [], _∷_, _++_, map}
 use Prim.Native.Nat.{ℕ, zero, suc, _+_}
 use lib.Dec.{eqb}
-use lib.ListN.{length, getD}
+use lib.ListN.{length}
 use Rattle.rules.specs.Base.{if_then_else_, upTo, concat}
 use Rattle.rules.specs.Color.{ColorSum}
-use Rattle.rules.specs.State.{State, Cluster, BoundingRect, cluster, label}
+use Rattle.rules.specs.State.{State, cluster, label}
 
 -- the entry after p, plus one
 unfoldable pub after : ℕ → List ℕ → ℕ

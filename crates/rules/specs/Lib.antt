@@ -14,9 +14,10 @@ pub mod Paint
 pub mod Stored
 pub mod Refusals
 pub mod Calls
--- the images worked by hand,
+-- the images worked by hand and small examples,
 pub mod Worked
 pub mod Edges
+pub mod Examples
 -- demand 3,
 pub mod Ledger
 pub mod Claim

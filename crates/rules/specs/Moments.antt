@@ -1,8 +1,6 @@
 -- The moments of a run at which demand 3 is claimed: the end of stage 1, and the state after every later merge.
---
-use mathlib.Core.Bool.{Bool, true, false}
 use mathlib.Core.List.{List, [], _∷_, _++_}
-use Prim.Native.Nat.{ℕ, zero, suc, _*_}
+use Prim.Native.Nat.{ℕ, suc, _*_}
 use lib.Dec.{ltb}
 use lib.ListN.{length}
 use Rattle.rules.specs.Base.{if_then_else_, times}

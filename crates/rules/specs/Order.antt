@@ -1,12 +1,11 @@
 -- Stage 2 told in other ways, shown equal to Stage2, for code to follow.
 -- The visiting order told by keys: a slot that is pending has its pixel count for a key, any other 0. The least key, and of several the
 -- first, is taken off and visited at that count; where it merged, its target is pending again. Stage 2 is this until no slot is pending.
---
-use mathlib.Core.Bool.{Bool, true, false, not, _&&_, _||_}
+use mathlib.Core.Bool.{Bool, false, not, _&&_, _||_}
 use mathlib.Core.List.{List, [], _∷_, map}
 use mathlib.Core.Option.{Option, some}
 use mathlib.Core.Option.{none as off}
-use Prim.Native.Nat.{ℕ, zero, suc, _*_, max}
+use Prim.Native.Nat.{ℕ, _*_, max}
 use lib.Dec.{leb, ltb, eqb}
 use lib.ListN.{length, getD, set}
 use Rattle.rules.specs.Base.{if_then_else_, times, member}

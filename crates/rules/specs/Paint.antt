@@ -2,12 +2,12 @@
 -- picture, painted only when all pass.
 use mathlib.Core.Path.{_≡_}
 use mathlib.Core.Bool.{Bool, true, false, not, _&&_, _||_}
-use mathlib.Core.List.{List, [], _∷_}
+use mathlib.Core.List.{List}
 use Prim.Native.Nat.{ℕ, zero, suc, _+_, _*_, _<_}
 use lib.Dec.{leb, ltb, eqb}
 use lib.ListN.{length, getD, replicate}
 use Rattle.rules.specs.Base.{if_then_else_, each, timesBack}
-use Rattle.rules.specs.Color.{Color, ColorSum, average, hasAverage}
+use Rattle.rules.specs.Color.{ColorSum, average, hasAverage}
 use Rattle.rules.specs.State.{State}
 use Rattle.rules.specs.Layout.{link, slot, walk, slotWidth, firstPixelAt, pixelCountAt, sumAt, residueAt}
 use Rattle.rules.specs.Picture.{paintPixel}

@@ -1,6 +1,7 @@
--- The picture of a state: zeros, then the outputs from last to first with the residue average (`to_color_image` of container.rs).
-use mathlib.Core.List.{List, [], _∷_, _++_}
-use Prim.Native.Nat.{ℕ, zero, suc, _+_, _*_}
+-- The picture of a state: zeros, then the outputs from last to first with the residue average (`to_color_image` of container.rs;
+-- document 01, "The picture, its rows, the stored sheet").
+use mathlib.Core.List.{List, [], _∷_}
+use Prim.Native.Nat.{ℕ, _*_}
 use lib.ListN.{replicate}
 use lib.Seq.{sets}
 use Rattle.rules.specs.Base.{each, eachBack}

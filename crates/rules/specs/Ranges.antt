@@ -1,4 +1,4 @@
--- The range of every number of a state, for a image of w columns and h rows.
+-- The range of every number of a state, for an image of w columns and h rows.
 use mathlib.Core.List.{List, [], _∷_}
 use Prim.Native.Nat.{ℕ, _+_, _*_, _≤_, _<_}
 use lib.ListN.{length}

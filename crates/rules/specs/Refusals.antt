@@ -1,6 +1,6 @@
 -- The answer number of each public call: document 01, "The answer number, by the place where it is checked". 0 is acceptance. A call
 -- checks only what it takes, in the table's order, and answers the number of the first check that fails.
-use mathlib.Core.Bool.{Bool, true, false, not, _&&_, _||_}
+use mathlib.Core.Bool.{Bool, true, not, _||_}
 use mathlib.Core.List.{List, [], _∷_, _++_}
 use Prim.Native.Nat.{ℕ, _+_, _*_}
 use lib.Dec.{leb, ltb, eqb}

@@ -1,7 +1,6 @@
--- The whole run: stage 1, stage 2, and the outputs that are left (`Runner::run`).
-use mathlib.Core.Bool.{Bool, true, false, not}
-use mathlib.Core.List.{List, [], _∷_, _++_}
-use Prim.Native.Nat.{ℕ, zero, suc, _+_, _*_}
+-- The whole run: stage 1, stage 2, and the outputs that are left (`Runner::run`; document 01, "The output order").
+use mathlib.Core.List.{List}
+use Prim.Native.Nat.{ℕ, _*_}
 use lib.Dec.{ltb, eqb}
 use Rattle.rules.specs.Base.{if_then_else_, keep}
 use Rattle.rules.specs.Color.{RunnerConfig}

@@ -1,15 +1,15 @@
 -- Stage 1, the label of each pixel: document 01, "The label of each pixel" (`stage_1` of builder.rs).
-use mathlib.Core.Bool.{Bool, true, false, not, _&&_, _||_}
-use mathlib.Core.List.{List, [], _∷_, _++_, map}
+use mathlib.Core.Bool.{Bool, not, _&&_}
+use mathlib.Core.List.{List}
 use mathlib.Core.Option.{Option, some}
 use mathlib.Core.Option.{none as off}
-use Prim.Native.Nat.{ℕ, zero, suc, _+_, _-_, _*_, _/_, _%_}
-use lib.Dec.{leb, ltb, eqb}
-use lib.ListN.{length, getD, set}
+use Prim.Native.Nat.{ℕ, _+_, _-_, _/_, _%_}
+use lib.Dec.{leb, eqb}
+use lib.ListN.{length}
 use Rattle.rules.specs.Base.{if_then_else_, times}
 use Rattle.rules.specs.Color.{Color, RunnerConfig, equalColor, keyingOn, isDiscard, isSame, pixel}
 use Rattle.rules.specs.Grid.{up, left, upLeft}
-use Rattle.rules.specs.State.{State, Cluster, fresh, cluster, label, area, pixelRect, add, beginCluster, combine}
+use Rattle.rules.specs.State.{State, fresh, cluster, label, area, pixelRect, add, beginCluster, combine}
 
 -- the pixel at a place; off the image it is none
 unfoldable pub colorAt : List ℕ → Option ℕ → Option Color

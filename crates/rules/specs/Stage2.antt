@@ -3,11 +3,11 @@ use mathlib.Core.Bool.{Bool, true, false, not, _&&_, _||_}
 use mathlib.Core.List.{List, [], _∷_, _++_, map}
 use mathlib.Core.Option.{Option, some}
 use mathlib.Core.Option.{none as off}
-use Prim.Native.Nat.{ℕ, zero, suc, _+_, _-_, _*_, _/_, _%_}
+use Prim.Native.Nat.{ℕ, suc, _+_, _-_}
 use lib.Dec.{leb, ltb, eqb}
-use lib.ListN.{length, getD, set}
+use lib.ListN.{length, getD}
 use Rattle.rules.specs.Base.{if_then_else_, times, upTo, member, noneAbove, insert, keep, sortBy, least}
-use Rattle.rules.specs.Color.{Color, RunnerConfig, keyingOn, discards, colorDiff, average, exceeds}
+use Rattle.rules.specs.Color.{RunnerConfig, discards, colorDiff, average, exceeds}
 use Rattle.rules.specs.Grid.{sides}
 use Rattle.rules.specs.State.{State, Cluster, cluster, label, area, withResidue, put, merge, deepen}
 

@@ -2,7 +2,7 @@
 use mathlib.Core.Bool.{Bool, not}
 use mathlib.Core.List.{List, [], _∷_, _++_, map}
 use Prim.Native.Nat.{ℕ, _+_, _*_, _/_, _%_}
-use lib.ListN.{length, getD, take}
+use lib.ListN.{getD, take}
 use Rattle.rules.specs.Base.{upTo, concat, noneAbove}
 use Rattle.rules.specs.Layout.{firstPixelAt, pixelCountAt}
 use Rattle.rules.specs.Paint.{slotNumber}

@@ -2,7 +2,7 @@
 use mathlib.Core.Path.{_≡_, refl}
 use mathlib.Core.List.{List, [], _∷_, _++_, map}
 use Prim.Native.Nat.{ℕ, _*_}
-use lib.IntN.{ℤ, pos}
+use lib.IntN.{pos}
 use lib.ListN.{length}
 use Rattle.rules.specs.Color.{Color, ColorSum, rgba, RunnerConfig, KeyingAction, Keep, Discard}
 use Rattle.rules.specs.State.{State, cluster}
