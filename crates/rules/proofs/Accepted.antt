@@ -1,17 +1,15 @@
 -- What an accepted call has passed: an answer of 0 taken apart into the facts that its checks ask for.
-use mathlib.Core.Path.{_≡_, refl, sym, ap, _∙_, subst}
-use mathlib.Core.Bool.{Bool, true, false, not, _&&_, _||_}
+use mathlib.Core.Path.{_≡_, refl, sym, _∙_, subst}
+use mathlib.Core.Bool.{Bool, true, false, not, _||_}
 use mathlib.Core.List.{List, [], _∷_, _++_}
 use Prim.Native.Nat.{ℕ, zero, suc, _+_, _*_, _≤_, _<_}
-use native.Mathlib.Decide.{ℕ-discrete}
 use native.Mathlib.Nat.{mul-pos}
 use native.Mathlib.Omega.{arith}
-use lib.Dec.{T, leb, ltb, eqb, nltb→le, le→leb}
-use lib.IntN.{ℤ, pos, negsuc}
+use lib.Dec.{T, ltb, eqb, nltb→le}
 use Rattle.rules.specs.Base.{if_then_else_}
 use Rattle.rules.specs.Color.{RunnerConfig}
-use Rattle.rules.specs.Refusals.{Check, when, firstFailed, sizeChecks, notFourEach, runChecks, limit, badShift, tableLength, outputsLength, workLength, runAnswer, runAndPaintAnswer, paintAnswer}
-use Rattle.rules.proofs.Facts.{is-false, eqb-no, eqb-yes}
+use Rattle.rules.specs.Refusals.{Check, when, firstFailed, sizeChecks, notFourEach, runChecks, limit, badShift, tableLength, outputsLength, workLength, runAnswer, runAndPaintAnswer}
+use Rattle.rules.proofs.Facts.{eqb-no}
 use Rattle.rules.proofs.Visits.{eqb-is, eqb-ne}
 
 -- a check whose number is not 0 was passed, and so were the later ones

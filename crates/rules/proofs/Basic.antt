@@ -1,20 +1,19 @@
 -- The ledger and the state after a merge, and what lists, sums and labels have to do with the ledger in both stages.
 use mathlib.Core.Path.{_≡_, refl, sym, ap, ap₂, _∙_, subst, fun-ext}
 use mathlib.Core.Logic.{_≢_, _⊎_, inl, inr}
-use mathlib.Core.Bool.{Bool, true, false, not, _&&_, _||_}
-use mathlib.Core.List.{List, [], _∷_, _++_}
-use Prim.Native.Nat.{ℕ, zero, suc, _+_, _≤_, _<_}
+use mathlib.Core.Bool.{Bool, false, _||_}
+use mathlib.Core.List.{List, [], _++_}
+use Prim.Native.Nat.{ℕ, _+_, _<_}
 use native.Mathlib.Decide.{ℕ-discrete}
 use native.Mathlib.Omega.{arith}
-use lib.Dec.{T, eqb}
+use lib.Dec.{T}
 use lib.ListN.{length, getD, set, length-set}
 use lib.Seq.{getD-set-same, getD-set-other}
-use Rattle.rules.specs.Base.{if_then_else_}
-use Rattle.rules.specs.Color.{ColorSum, zeroSum, _⊕_}
-use Rattle.rules.specs.State.{State, Cluster, newCluster, cluster, label, relabel, withCluster, emptied, withResidue, mergedTo, deeper, combine, merge, deepen, Event, added, plain, deepened}
-use Rattle.rules.specs.Ledger.{Held, enter, ledger}
-use Rattle.rules.specs.Claim.{bit, occurs, tally, Stands}
-use Rattle.rules.proofs.Facts.{is-true, is-false, T-dec, T-or, T-or-l, T-or-r, eqb-yes, eqb-no, bit-or, bit-T, T-bit, occurs-append, relabel-other, relabel-in, length-relabel, ⊕-comm, tally-or, tally-none}
+use Rattle.rules.specs.Color.{zeroSum, _⊕_}
+use Rattle.rules.specs.State.{State, Cluster, newCluster, cluster, label, relabel, withCluster, emptied, withResidue, mergedTo, deeper, combine, merge, deepen, plain, deepened}
+use Rattle.rules.specs.Ledger.{Held, enter}
+use Rattle.rules.specs.Claim.{bit, occurs, tally}
+use Rattle.rules.proofs.Facts.{is-false, T-dec, T-or, T-or-l, T-or-r, eqb-yes, eqb-no, bit-or, T-bit, occurs-append, relabel-other, relabel-in, length-relabel, tally-or, tally-none}
 
 -- ---- the ledger after a merge
 

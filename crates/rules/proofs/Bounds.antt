@@ -2,23 +2,23 @@
 -- Each put takes a root that is not yet due, and each merge takes a root: outputs + roots not due + roots never rises.
 use mathlib.Core.Path.{_≡_, refl, sym, ap, _∙_, subst}
 use mathlib.Core.Logic.{_≢_, _⊎_, inl, inr}
-use mathlib.Core.Bool.{Bool, true, false, not, _&&_, _||_}
-use mathlib.Core.List.{List, [], _∷_, _++_}
+use mathlib.Core.Bool.{Bool, true, false, _&&_, _||_}
+use mathlib.Core.List.{List, [], _∷_}
 use Prim.Native.Nat.{ℕ, zero, suc, _+_, _*_, _≤_, _<_}
 use native.Mathlib.Decide.{ℕ-discrete}
 use native.Mathlib.Omega.{arith}
 use lib.Dec.{T, eqb, ltb, leb, eqb→eq, eqb-refl, ltb→lt, lt→ltb, leb→le, le→leb}
 use lib.ListN.{length, getD, length-append, length-map}
-use Rattle.rules.specs.Base.{if_then_else_, times, least, keep}
-use Rattle.rules.specs.Color.{RunnerConfig, discards}
+use Rattle.rules.specs.Base.{times}
+use Rattle.rules.specs.Color.{RunnerConfig}
 use Rattle.rules.specs.State.{State, cluster, label, area, emptied, mergedTo, withResidue, put, merge, deepen}
 use Rattle.rules.specs.Stage2.{prepareStage2, visit, pass, passes}
-use Rattle.rules.specs.Run.{run, stage1, stage2, dropEmpty}
-use Rattle.rules.specs.Claim.{bit, countOf}
-use Rattle.rules.proofs.Facts.{standing, countOf-le, countOf-lt, countOf-swap, is-false, is-true}
+use Rattle.rules.specs.Run.{stage1, stage2}
+use Rattle.rules.specs.Claim.{countOf}
+use Rattle.rules.proofs.Facts.{standing, countOf-le, countOf-lt, countOf-swap}
 use Rattle.rules.proofs.Basic.{Moved, merge-f, merge-moved, deepen-f, deepen-moved}
 use Rattle.rules.proofs.Visits.{Going, Near, visit-cases, isolated-cases, visit-going, pass-going, times-keep, root, k≢t, k-slot, t-slot, target-root, target-stands}
-use Rattle.rules.proofs.Early.{Early, prepareStage2-going, settled}
+use Rattle.rules.proofs.Early.{prepareStage2-going, settled}
 use Rattle.rules.proofs.Whole.{early, stage2-passes}
 use Rattle.rules.proofs.Outputs.{area-pos}
 

@@ -1,19 +1,19 @@
 -- Run, then painting, with nobody writing in between: no check refuses the painting.
-use mathlib.Core.Path.{_≡_, refl, sym, ap, _∙_, subst}
-use mathlib.Core.Bool.{Bool, true, false, not, _&&_, _||_}
-use mathlib.Core.List.{List, [], _∷_, _++_}
-use Prim.Native.Nat.{ℕ, zero, suc, _+_, _*_, _≤_, _<_}
+use mathlib.Core.Path.{_≡_, refl, sym, ap, _∙_}
+use mathlib.Core.Bool.{Bool, true, false}
+use mathlib.Core.List.{List, [], _∷_}
+use Prim.Native.Nat.{ℕ, suc, _+_, _*_, _≤_, _<_}
 use native.Mathlib.Nat.{mul-le-mul-left}
 use native.Mathlib.Omega.{arith}
-use lib.Dec.{T, leb, ltb, eqb, ltb→lt}
-use lib.ListN.{length, getD, drop, length-append, length-drop}
+use lib.Dec.{ltb, ltb→lt}
+use lib.ListN.{length, getD, length-append, length-drop}
 use Rattle.rules.specs.Base.{if_then_else_, keep}
 use Rattle.rules.specs.Color.{RunnerConfig}
-use Rattle.rules.specs.State.{State, cluster}
+use Rattle.rules.specs.State.{cluster}
 use Rattle.rules.specs.Run.{run, stage1, stage2, dropEmpty}
 use Rattle.rules.specs.Layout.{slotWidth, links, table}
 use Rattle.rules.specs.Picture.{paint}
-use Rattle.rules.specs.Paint.{Painted, painting}
+use Rattle.rules.specs.Paint.{Painted}
 use Rattle.rules.specs.Refusals.{limit, tableLength, outputsLength, paintAnswer}
 use Rattle.rules.specs.Calls.{Buffers, Ran, over, leaves, accepted, runNumber, runCall, paintCall}
 use Rattle.rules.proofs.Facts.{is-false, eqb-yes, eqb-no}

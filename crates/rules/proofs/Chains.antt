@@ -1,28 +1,24 @@
 -- The list of every standing cluster is read along the links: a cluster inside another is a stretch of the outer one's list.
 use mathlib.Core.Path.{_≡_, refl, sym, ap, _∙_, subst}
 use mathlib.Core.Logic.{_≢_, _⊎_, inl, inr}
-use mathlib.Core.Bool.{Bool, true, false, _||_}
+use mathlib.Core.Bool.{Bool, true, false}
 use mathlib.Core.List.{List, [], _∷_, _++_, append-assoc, append-nil}
-use Prim.Native.Nat.{ℕ, zero, suc, _+_, _*_, _≤_, _<_}
+use Prim.Native.Nat.{ℕ, suc, _+_, _≤_, _<_}
 use native.Mathlib.Decide.{ℕ-discrete}
 use native.Mathlib.Omega.{arith}
-use lib.Dec.{T, eqb, leb, ltb}
+use lib.Dec.{T, eqb}
 use lib.ListN.{length, getD}
-use Rattle.rules.specs.Base.{if_then_else_, times, least}
-use Rattle.rules.specs.Color.{RunnerConfig, discards}
-use Rattle.rules.specs.State.{State, Cluster, cluster, label, area, emptied, mergedTo, put, merge, deepen, plain, deepened}
+use Rattle.rules.specs.State.{State, cluster, label, area, mergedTo, put, merge, deepen}
 use Rattle.rules.specs.Layout.{after, firstOf, link, walk}
-use Rattle.rules.specs.Ledger.{Held, enter, ledger, owned}
+use Rattle.rules.specs.Ledger.{Held, ledger}
 use Rattle.rules.specs.Claim.{bit, occurs, Stands}
-use Rattle.rules.proofs.Facts.{T-dec, T-bit, bit-T, eqb-yes, eqb-no, occurs-append}
-use Rattle.rules.proofs.Basic.{Basic, Moved, merge-moved, deepen-f, deepen-moved, lab-from, lab-other, plain-down, deepened-down}
+use Rattle.rules.proofs.Facts.{T-dec, bit-T, eqb-yes, eqb-no, occurs-append}
+use Rattle.rules.proofs.Basic.{Moved, merge-moved, deepen-f, deepen-moved, lab-from, lab-other, plain-down, deepened-down}
 use Rattle.rules.proofs.Sound.{Sound}
-use Rattle.rules.specs.Stage2.{prepareStage2, visit, pass, passes}
-use Rattle.rules.specs.State.{withResidue}
-use Rattle.rules.specs.Run.{stage1, stage2, run, dropEmpty}
-use Rattle.rules.proofs.Early.{Early, prepareStage2-going, settled}
-use Rattle.rules.proofs.Whole.{early}
-use Rattle.rules.proofs.Visits.{Going, Near, visit-cases, isolated-cases, visit-going, pass-going, times-keep, root, k≢t, k-slot, t-slot, target-root}
+use Rattle.rules.specs.Stage2.{prepareStage2}
+use Rattle.rules.proofs.Owned.{owned}
+use Rattle.rules.proofs.Early.{Early}
+use Rattle.rules.proofs.Visits.{Going, Near, root, k≢t, k-slot, t-slot, target-root}
 
 -- xs is a stretch of ys
 abbrev pub Within : List ℕ → List ℕ → Type 0

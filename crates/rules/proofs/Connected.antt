@@ -1,7 +1,7 @@
 -- A cluster with no neighbour, on an image where no label is 0, covers the image.
 use mathlib.Core.Path.{_≡_, refl, sym, ap, _∙_, subst}
 use mathlib.Core.Logic.{_≢_, _⊎_, inl, inr}
-use mathlib.Core.Bool.{Bool, true, false, _||_, true≢false}
+use mathlib.Core.Bool.{Bool, true, false, _||_}
 use mathlib.Core.List.{List, [], _∷_, cons≢nil}
 use mathlib.Core.Option.{Option, some}
 use mathlib.Core.Option.{none as off}
@@ -9,15 +9,15 @@ use Prim.Native.Nat.{ℕ, zero, suc, _+_, _-_, _*_, _%_, _≤_, _<_}
 use native.Mathlib.Decide.{ℕ-discrete, decLt}
 use native.Mathlib.Nat.{mod-eq-of-lt, le-mul-of-pos-right}
 use native.Mathlib.Omega.{arith}
-use lib.Dec.{T, eqb, ltb, leb, le→leb, lt→ltb}
-use lib.ListN.{length, getD}
+use lib.Dec.{eqb, ltb, leb, le→leb, lt→ltb}
+use lib.ListN.{getD}
 use Rattle.rules.specs.Base.{if_then_else_, insert}
 use Rattle.rules.specs.Color.{RunnerConfig}
 use Rattle.rules.specs.Grid.{up, down, left, right, sides}
 use Rattle.rules.specs.State.{State, cluster, label}
 use Rattle.rules.specs.Stage2.{labelsAt, labelsAround, neighbours}
 use Rattle.rules.specs.Claim.{bit, occurs}
-use Rattle.rules.proofs.Facts.{is-true, eqb-yes, eqb-no}
+use Rattle.rules.proofs.Facts.{is-true, eqb-no}
 use Rattle.rules.proofs.Visits.{eqb-is}
 
 -- ---- walking over the image

@@ -1,31 +1,32 @@
 -- Stage 1: what holds after i pixels, and that stage 2 starts from it.
-use mathlib.Core.Path.{_≡_, refl, sym, ap, ap₂, _∙_, subst, fun-ext}
+use mathlib.Core.Path.{_≡_, refl, sym, ap, _∙_, subst, fun-ext}
 use mathlib.Core.Logic.{_≢_, _⊎_, inl, inr}
 use mathlib.Core.Bool.{Bool, true, false, not, _&&_, _||_, true≢false}
-use mathlib.Core.List.{List, [], _∷_, _++_, map}
+use mathlib.Core.List.{List, [], _∷_, _++_}
 use mathlib.Core.Option.{Option, some}
 use mathlib.Core.Option.{none as off}
-use Prim.Native.Nat.{ℕ, zero, suc, _+_, _-_, _*_, _/_, _%_, _≤_, _<_}
+use Prim.Native.Nat.{ℕ, zero, suc, _+_, _-_, _/_, _%_, _≤_, _<_}
 use native.Mathlib.Decide.{ℕ-discrete}
 use native.Mathlib.Nat.{mod-le}
 use native.Mathlib.Omega.{arith}
-use lib.Dec.{T, not-T, eqb, ltb, leb, leb→le, eqb→eq, ltb→lt, lt→ltb, nltb→le}
-use lib.ListN.{length, getD, set, replicate, length-set, length-append, length-replicate, getD-replicate, List·getD-append, List·getD-eq-default, List·getD-map, length-map}
+use lib.Dec.{T, not-T, eqb, ltb, leb, leb→le, ltb→lt, lt→ltb, nltb→le}
+use lib.ListN.{length, getD, set, replicate, length-set, length-append, length-replicate, List·getD-append, List·getD-eq-default, List·getD-map, length-map}
 use lib.Seq.{getD-set-same, getD-set-other, getD-append-seam}
 use Rattle.rules.specs.Base.{if_then_else_, times}
-use Rattle.rules.specs.Color.{Color, RunnerConfig, ColorSum, zeroSum, one, _⊕_, pixel, isDiscard}
+use Rattle.rules.specs.Color.{Color, RunnerConfig, one, _⊕_, pixel, isDiscard}
 use Rattle.rules.specs.Grid.{up, left, upLeft}
 use Rattle.rules.specs.State.{State, Cluster, BoundingRect, newCluster, cluster, label, area, pixelRect, withPixel, withCluster, emptied, withResidue, fresh, add, beginCluster, combine, added, plain}
 use Rattle.rules.specs.Stage1.{sameAt, labelAt, leftMeetsUp, lowerNext, isKey, place, combineThenPlace, takePixel, taken}
 use Rattle.rules.specs.Stage2.{prepareStage2}
-use Rattle.rules.specs.Ledger.{Held, enter, ledger, owned}
-use Rattle.rules.specs.Claim.{bit, occurs, tally, countOf, Stands}
+use Rattle.rules.specs.Ledger.{Held, enter, ledger}
+use Rattle.rules.specs.Claim.{bit, occurs, tally, countOf}
+use Rattle.rules.proofs.Owned.{owned}
 use Rattle.rules.proofs.Facts.{standing, countOf-le, countOf-more, countOf-swap, countOf-none}
-use Rattle.rules.proofs.Facts.{is-true, is-false, T-dec, T-or, T-or-l, T-or-r, eqb-yes, eqb-no, bit-or, bit-T, T-bit, occurs-append, length-relabel, ⊕-comm, tally-or, tally-none, tally-one}
+use Rattle.rules.proofs.Facts.{is-true, is-false, T-dec, T-or-r, eqb-yes, eqb-no, bit-or, occurs-append, ⊕-comm, tally-or, tally-none, tally-one}
 use Rattle.rules.proofs.Forest.{flat}
 use Rattle.rules.proofs.Basic.{Basic, Moved, three, plain-down, plain-to, plain-up, lab-from, lab-other, plain-basic, combine-f, combine-t, combine-moved}
 use Rattle.rules.proofs.Sound.{Sound}
-use Rattle.rules.proofs.Visits.{Going, times-keep, eqb-ne, eqb-is}
+use Rattle.rules.proofs.Visits.{Going, eqb-is}
 
 -- Gone p: p is a discarded pixel. Keyed: keying is on.
 pub record Early (image : List ℕ) (size : ℕ) (Gone : ℕ → Type 0) (Keyed : Type 0) (i : ℕ) (s : State) : Type 0 where

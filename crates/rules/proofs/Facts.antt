@@ -1,5 +1,5 @@
 -- Tests, counts and totals.
-use mathlib.Core.Path.{_≡_, refl, sym, ap, ap₂, _∙_, subst}
+use mathlib.Core.Path.{_≡_, refl, sym, ap, _∙_, subst}
 use mathlib.Core.Logic.{_≢_, _⊎_, inl, inr}
 use mathlib.Core.Bool.{Bool, true, false, not, _&&_, _||_, true≢false}
 use mathlib.Core.List.{List, [], _∷_, _++_}
@@ -10,8 +10,8 @@ use native.Mathlib.Omega.{arith}
 use lib.Dec.{T, ltb, eqb, eqb→eq, eqb-refl}
 use lib.ListN.{length, getD, set, length-set}
 use lib.Seq.{getD-set-same, getD-set-other}
-use Rattle.rules.specs.Base.{if_then_else_, each}
-use Rattle.rules.specs.Color.{Color, ColorSum, zeroSum, one, _⊕_, pixel}
+use Rattle.rules.specs.Base.{if_then_else_}
+use Rattle.rules.specs.Color.{ColorSum, zeroSum, one, _⊕_, pixel}
 use Rattle.rules.specs.State.{relabel, State, cluster, area}
 use Rattle.rules.specs.Claim.{bit, occurs, tally, countOf}
 

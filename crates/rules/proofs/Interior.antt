@@ -1,13 +1,12 @@
 -- The boundary of a visited cluster is smaller than its area exactly when some pixel of its list has all four neighbours in it: the hole list does
 -- not matter. This holds where the least area is at least 1, since each hole child then passed the same test.
-use mathlib.Core.Path.{_≡_, refl, sym, ap, _∙_, subst, fun-ext}
+use mathlib.Core.Path.{_≡_, refl, sym, ap, _∙_, subst}
 use mathlib.Core.Logic.{_≢_, _⊎_, inl, inr}
 use mathlib.Core.Bool.{Bool, true, false, not, _&&_, _||_, true≢false}
 use mathlib.Core.List.{List, [], _∷_, _++_}
 use mathlib.Core.Option.{Option, some}
 use mathlib.Core.Option.{none as off}
-use Prim.Native.Nat.{ℕ, zero, suc, _+_, _*_, _≤_, _<_}
-use native.Mathlib.Decide.{ℕ-discrete}
+use Prim.Native.Nat.{ℕ, suc, _+_, _*_, _≤_, _<_}
 use native.Mathlib.Omega.{arith}
 use lib.Dec.{T, eqb, ltb, lt→ltb, ltb→lt}
 use lib.ListN.{length, getD}
@@ -20,11 +19,11 @@ use Rattle.rules.specs.Run.{stage1}
 use Rattle.rules.specs.Order.{anyOf, interior, start, turns}
 use Rattle.rules.specs.Ledger.{Held, enter, ledger}
 use Rattle.rules.specs.Claim.{bit, occurs, Stands, Holds}
-use Rattle.rules.proofs.Facts.{is-true, is-false, T-dec, T-or, T-or-l, T-or-r, T-bit, eqb-yes, eqb-no}
-use Rattle.rules.proofs.Basic.{Basic, Moved, three, plain-f, plain-t, plain-o, plain-up, deepened-o, deepened-up, deepened-to, merge-f, merge-t, merge-moved, deepen-f, deepen-t, deepen-moved}
+use Rattle.rules.proofs.Facts.{is-true, T-or, T-or-l, T-or-r, eqb-yes, eqb-no}
+use Rattle.rules.proofs.Basic.{Basic, Moved, three, plain-f, plain-o, plain-up, deepened-o, deepened-up, deepened-to, merge-t, merge-moved, deepen-f, deepen-t, deepen-moved}
 use Rattle.rules.proofs.Visits.{Going, Near, visit-cases-why, isolated-cases, eqb-is, eqb-ne, stands, root, k≢t, k-slot, t-slot, target-root, target-stands}
 use Rattle.rules.proofs.Early.{settled}
-use Rattle.rules.proofs.Slots.{Slot, stage1-slots}
+use Rattle.rules.proofs.Slots.{stage1-slots}
 use Rattle.rules.proofs.Outputs.{In}
 use Rattle.rules.proofs.Order.{Turning, turns-keep, start-turning}
 

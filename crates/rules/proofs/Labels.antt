@@ -1,19 +1,17 @@
 -- The claim of demand 3 before every turn, and the list of a cluster inside no other told by the labels.
 use mathlib.Core.Path.{_≡_, refl, sym, ap, ap₂, _∙_, subst}
-use mathlib.Core.Logic.{_≢_, _⊎_, inl, inr}
 use mathlib.Core.Bool.{Bool, true, false, not, _&&_, _||_}
 use mathlib.Core.List.{List, [], _∷_}
 use mathlib.Core.Option.{Option, some}
 use mathlib.Core.Option.{none as off}
-use Prim.Native.Nat.{ℕ, zero, suc, _+_, _-_, _*_, _/_, _%_, _≤_, _<_}
+use Prim.Native.Nat.{ℕ, suc, _+_, _-_, _*_, _/_, _%_, _≤_, _<_}
 use native.Mathlib.Nat.{div-lt-iff-lt-mul, mul-comm, mul-suc, mul-le-mul-left, div-add-mod}
 use native.Mathlib.Omega.{arith}
 use lib.Dec.{T, eqb, ltb, leb, eqb→eq, ltb→lt}
-use lib.ListN.{length, getD}
 use Rattle.rules.specs.Base.{if_then_else_, member}
 use Rattle.rules.specs.Grid.{up, down, left, right, sides}
 use Rattle.rules.specs.Color.{RunnerConfig, isDiscard}
-use Rattle.rules.specs.State.{State, cluster, label, area}
+use Rattle.rules.specs.State.{State, cluster, label}
 use Rattle.rules.specs.Stage1.{isKey}
 use Rattle.rules.specs.Stage2.{allIn, prepareStage2}
 use Rattle.rules.specs.Run.{stage1}
@@ -96,18 +94,6 @@ module _ (o : RunnerConfig) (w h : ℕ) (image : List ℕ) where
       go false x true y true z = refl
       go false x true y false z = absurd (subst T (sym (ap (λ j. ledger (s .log) j q) (sym (eqb→eq (label s q) k (subst T (sym y) tt)))) ∙ x) (C .labelled q l (λ t. subst T z t) .0))
       go false x false y d z = refl
-
-  -- for a number above 0 the label alone tells
-  pub member-label-some : (a m : ℕ) (s : State) → Going image (w * h) a m s → (k : ℕ) → k ≢ 0 → cluster s k .mergedInto ≡ 0 → (q : ℕ) → member q (cluster s k .pixels) ≡ eqb (label s q) k
-  member-label-some a m s G k n r q = member-held (G .sound .basic) k q ∙ go (ledger (s .log) k q) refl (eqb (label s q) k) refl
-    where
-      go : (b : Bool) → ledger (s .log) k q ≡ b → (c : Bool) → eqb (label s q) k ≡ c → b ≡ c
-      go true x true y = refl
-      go true x false y = absurd (subst T (sym (eqb-yes (label s q) k (G .sound .tops k q (subst T (sym x) tt) r)) ∙ y) tt)
-      go false x true y =
-          let z : label s q ≡ k = eqb→eq (label s q) k (subst T (sym y) tt) in
-          absurd (subst T x (subst (λ j. T (ledger (s .log) j q)) z (G .sound .basic .shown q (λ e. n (sym z ∙ e)))))
-      go false x false y = refl
 
   -- the interior told by the labels
   pub interior-labels : (a m : ℕ) (s : State) → Going image (w * h) a m s → Agrees o w h image (ledger (s .log)) s → (k : ℕ) → cluster s k .mergedInto ≡ 0

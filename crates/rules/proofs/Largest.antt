@@ -1,25 +1,25 @@
 -- "No larger area is listed" is "no slot has a larger pixel count".
 use mathlib.Core.Path.{_≡_, refl, sym, ap, _∙_, subst}
 use mathlib.Core.Logic.{_≢_, _⊎_, inl, inr}
-use mathlib.Core.Bool.{Bool, true, false, not, _&&_}
-use mathlib.Core.List.{List, [], _∷_, _++_}
+use mathlib.Core.Bool.{Bool, true, false, _&&_}
+use mathlib.Core.List.{List, [], _∷_}
 use Prim.Native.Nat.{ℕ, zero, suc, _+_, _*_, _≤_, _<_, max}
 use native.Mathlib.Decide.{ℕ-discrete, decLt}
 use native.Mathlib.Omega.{arith}
 use lib.Dec.{T, eqb, ltb, leb, leb→le, le→leb}
 use lib.ListN.{length, getD, length-append}
-use Rattle.rules.specs.Base.{if_then_else_, noneAbove, times, insert}
+use Rattle.rules.specs.Base.{if_then_else_, noneAbove, insert}
 use Rattle.rules.specs.Color.{RunnerConfig}
 use Rattle.rules.specs.State.{State, Cluster, newCluster, cluster, label, area, emptied, withCluster, mergedTo, deeper, withResidue, put, merge, deepen}
-use Rattle.rules.specs.Stage2.{areasOf, prepareStage2, visit, pass, passes}
+use Rattle.rules.specs.Stage2.{areasOf, prepareStage2, visit}
 use Rattle.rules.specs.Run.{stage1}
 use Rattle.rules.specs.Ledger.{ledger}
-use Rattle.rules.specs.Claim.{countOf, Stands}
+use Rattle.rules.specs.Claim.{Stands}
 use Rattle.rules.specs.Order.{largest, start, turns}
-use Rattle.rules.proofs.Facts.{is-true, is-false, T-dec, countOf-some, countOf-none}
+use Rattle.rules.proofs.Facts.{is-true, countOf-some, countOf-none}
 use Rattle.rules.proofs.Basic.{Basic, Moved, three, merge-f, merge-moved, deepen-f, deepen-moved}
-use Rattle.rules.proofs.Visits.{Going, Near, visit-cases, isolated-cases, eqb-is, k≢t, k-slot, t-slot}
-use Rattle.rules.proofs.Early.{Early, settled}
+use Rattle.rules.proofs.Visits.{Going, Near, visit-cases, isolated-cases, k≢t, k-slot, t-slot}
+use Rattle.rules.proofs.Early.{settled}
 use Rattle.rules.proofs.Whole.{early}
 use Rattle.rules.proofs.Outputs.{In, area-countOf}
 use Rattle.rules.proofs.Listed.{Listed, put-listed, merge-listed, deepen-listed, prepareStage2-listed}

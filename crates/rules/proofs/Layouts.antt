@@ -11,7 +11,7 @@ use Rattle.rules.specs.Base.{upTo, concat}
 use Rattle.rules.specs.State.{State}
 use Rattle.rules.specs.Layout.{slotWidth, link, links, sumNumbers, slot, table}
 use Rattle.rules.specs.Paint.{Lies}
-use Rattle.rules.specs.Calls.{Buffers, over, leaves}
+use Rattle.rules.specs.Calls.{Buffers, leaves}
 
 concat-append : (g : ℕ → List ℕ) (xs : List ℕ) (n : ℕ) → concat (map g (xs ++ (n ∷ []))) ≡ concat (map g xs) ++ g n
 concat-append g [] n = append-nil (g n)
@@ -79,17 +79,8 @@ pub table-at : (s : State) (k f : ℕ) → k < length (s .clusters) → f < slot
 unfolding table slot sumNumbers
 table-at s k f l b = spread-at (slot s) slotWidth (λ j. refl) (length (s .clusters)) k f l b
 
--- a state lies in its own lists, and in buffers that those are written over
+-- a state lies in buffers that its lists are written over
 module _ (size : ℕ) (s : State) (e : length (s .labels) ≡ size) where
-  pub layout-lies : Lies size s (length (s .clusters)) (length (s .outputs)) (links s) (table s) (s .outputs)
-  layout-lies = record {
-    slots = refl;
-    entries = refl;
-    linked = λ p l. links-at s p (omega (arith, e));
-    numbers = table-at s;
-    put = λ i l. refl;
-  }
-
   pub leaves-lies : (b : Buffers) → Lies size s (length (s .clusters)) (length (s .outputs)) (leaves s b .links) (leaves s b .table) (leaves s b .outputs)
   unfolding leaves
   leaves-lies b = record {

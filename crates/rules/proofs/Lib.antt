@@ -1,5 +1,6 @@
 -- The proofs about the rules.
 pub mod Forest
+pub mod Owned
 pub mod Facts
 pub mod Basic
 pub mod Sound
@@ -19,7 +20,6 @@ pub mod Left
 pub mod Listed
 pub mod Links
 pub mod Order
-pub mod Tournament
 pub mod Largest
 pub mod Slots
 pub mod Interior

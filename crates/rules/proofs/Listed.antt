@@ -2,24 +2,21 @@
 use mathlib.Core.Path.{_≡_, refl, sym, ap, _∙_, subst}
 use mathlib.Core.Logic.{_≢_, _⊎_, inl, inr}
 use mathlib.Core.Bool.{Bool, true, false}
-use mathlib.Core.List.{List, [], _∷_, _++_, map}
-use Prim.Native.Nat.{ℕ, zero, suc, _+_, _*_, _≤_, _<_}
-use native.Mathlib.Decide.{ℕ-discrete}
+use mathlib.Core.List.{List, [], _∷_, _++_}
+use Prim.Native.Nat.{ℕ, zero, suc, _+_, _<_}
 use native.Mathlib.Omega.{arith}
 use lib.Dec.{T, eqb, ltb}
 use lib.ListN.{length, getD}
 use Rattle.rules.specs.Base.{if_then_else_, times, insert}
 use Rattle.rules.specs.Color.{RunnerConfig}
-use Rattle.rules.specs.State.{State, Cluster, newCluster, cluster, label, area, emptied, withCluster, mergedTo, deeper, withResidue, put, merge, deepen, plain, deepened}
+use Rattle.rules.specs.State.{State, Cluster, newCluster, cluster, label, area, withCluster, mergedTo, deeper, withResidue, put, merge, deepen, plain, deepened}
 use Rattle.rules.specs.Stage2.{areasOf, prepareStage2, visit, pass, passes}
-use Rattle.rules.specs.Run.{stage1}
 use Rattle.rules.specs.Ledger.{Held, enter, ledger}
 use Rattle.rules.specs.Claim.{Stands}
-use Rattle.rules.proofs.Facts.{eqb-no, eqb-yes}
-use Rattle.rules.proofs.Basic.{Moved, three, plain-down, plain-o, deepened-o, merge-f, merge-moved, deepen-f, deepen-moved}
-use Rattle.rules.proofs.Visits.{Going, Near, visit-cases, isolated-cases, visit-going, pass-going, times-keep, eqb-is, eqb-ne, stands, root, k≢t, k-slot, t-slot, target-root}
-use Rattle.rules.proofs.Early.{Early, prepareStage2-going, settled}
-use Rattle.rules.proofs.Whole.{early}
+use Rattle.rules.proofs.Facts.{eqb-no}
+use Rattle.rules.proofs.Basic.{Moved, three, plain-down, plain-o, deepened-o, merge-moved, deepen-f, deepen-moved}
+use Rattle.rules.proofs.Visits.{Going, Near, visit-cases, isolated-cases, visit-going, pass-going, times-keep, eqb-is, stands, root, k≢t, k-slot, t-slot}
+use Rattle.rules.proofs.Early.{Early, settled}
 use Rattle.rules.proofs.Outputs.{In, area-pos}
 
 pub insert-old : (x a : ℕ) (xs : List ℕ) → In x xs → In x (insert a xs)

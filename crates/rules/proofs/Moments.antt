@@ -1,23 +1,24 @@
 -- Every moment of a run agrees with the ledger of its own log, and which states are moments.
 use mathlib.Core.Path.{_≡_, refl, sym, ap, _∙_, subst}
 use mathlib.Core.Logic.{_↔_, _≢_, _⊎_, inl, inr}
-use mathlib.Core.Bool.{Bool, true, false, not, _&&_}
+use mathlib.Core.Bool.{Bool, true, false, _&&_}
 use mathlib.Core.List.{List, [], _∷_, _++_}
-use Prim.Native.Nat.{ℕ, zero, suc, _+_, _*_, _≤_, _<_}
+use Prim.Native.Nat.{ℕ, zero, suc, _+_, _*_, _<_}
 use native.Mathlib.Decide.{ℕ-discrete}
 use native.Mathlib.Omega.{arith}
 use lib.Dec.{T, ltb, lt→ltb, ltb→lt}
-use lib.ListN.{length, getD}
+use lib.ListN.{length}
 use Rattle.rules.specs.Base.{if_then_else_, times}
 use Rattle.rules.specs.Color.{RunnerConfig, keyingOn}
 use Rattle.rules.specs.State.{State, Event, cluster, label, area, put, merge, deepen, added, plain, deepened}
 use Rattle.rules.specs.Stage2.{visit, pass, passes, prepareStage2}
 use Rattle.rules.specs.Run.{run, stage1, stage2, dropEmpty}
 use Rattle.rules.specs.Layout.{link}
-use Rattle.rules.specs.Ledger.{Held, enter, ledger, owned}
-use Rattle.rules.specs.Claim.{bit, occurs, tally, countOf, Stands, Holds}
+use Rattle.rules.specs.Ledger.{Held, ledger}
+use Rattle.rules.specs.Claim.{countOf, Stands, Holds}
 use Rattle.rules.specs.Moments.{Trace, begun, noted, notedPass, notedPasses, traced, moments, suffixes, Merges, logs, Each, Newest, Oldest}
 use Rattle.rules.specs.Demand3.{Discarded, Agrees}
+use Rattle.rules.proofs.Owned.{owned}
 use Rattle.rules.proofs.Facts.{T-dec, eqb-no, countOf-some, countOf-none}
 use Rattle.rules.proofs.Forest.{inside-not}
 use Rattle.rules.proofs.Basic.{Basic}

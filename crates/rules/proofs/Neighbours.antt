@@ -1,12 +1,12 @@
 -- The neighbours of a cluster as a set, their number, and the target as the least by difference and number: what a scan with marks finds.
 use mathlib.Core.Path.{_≡_, refl, sym, ap, ap₂, _∙_, subst}
 use mathlib.Core.Logic.{_↔_, _≢_, _⊎_, inl, inr}
-use mathlib.Core.Bool.{Bool, true, false, not, _&&_, _||_}
+use mathlib.Core.Bool.{Bool, true, false, not, _||_}
 use mathlib.Core.List.{List, [], _∷_}
 use mathlib.Core.Option.{Option, some}
 use mathlib.Core.Option.{none as off}
 use Prim.Native.Nat.{ℕ, zero, suc, _+_, _≤_, _<_}
-use native.Mathlib.Decide.{ℕ-discrete, decLt}
+use native.Mathlib.Decide.{decLt}
 use native.Mathlib.Omega.{arith}
 use lib.Dec.{T, eqb, ltb, ltb→lt, nltb→le, eqb→eq}
 use lib.ListN.{length, getD}
@@ -15,14 +15,14 @@ use Rattle.rules.specs.Color.{RunnerConfig, _⊕_}
 use Rattle.rules.specs.Grid.{sides}
 use Rattle.rules.specs.State.{State, cluster, label}
 use Rattle.rules.specs.Stage2.{labelsAt, labelsAround, neighbours}
-use Rattle.rules.specs.Claim.{tally, countOf}
-use Rattle.rules.proofs.Facts.{eqb-yes, countOf-one, tally-or}
+use Rattle.rules.specs.Claim.{countOf}
+use Rattle.rules.proofs.Facts.{countOf-one, tally-or}
 use Rattle.rules.proofs.Visits.{All, insert-all, eqb-is, eqb-ne}
 use Rattle.rules.proofs.Outputs.{In}
 use Rattle.rules.proofs.Pictures.{tally-count}
 use Rattle.rules.proofs.Listed.{insert-old, insert-new}
 use Rattle.rules.proofs.Largest.{insert-from}
-use Rattle.rules.proofs.Interior.{in-member, member-in}
+use Rattle.rules.proofs.Interior.{member-in}
 
 -- ---- rising lists
 

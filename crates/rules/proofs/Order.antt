@@ -1,8 +1,8 @@
 -- Stage 2 is repeated picking of the least pending slot.
-use mathlib.Core.Path.{_≡_, refl, sym, ap, ap₂, _∙_, subst}
+use mathlib.Core.Path.{_≡_, refl, sym, ap, _∙_, subst}
 use mathlib.Core.Logic.{_≢_, _⊎_, inl, inr}
 use mathlib.Core.Bool.{Bool, true, false, not, _&&_}
-use mathlib.Core.List.{List, [], _∷_, _++_, map}
+use mathlib.Core.List.{List, _∷_}
 use mathlib.Core.Option.{Option, some}
 use mathlib.Core.Option.{none as off}
 use Prim.Native.Nat.{ℕ, zero, suc, _+_, _*_, _≤_, _<_}
@@ -21,7 +21,7 @@ use Rattle.rules.specs.Order.{better, pick, target, rekey, Queue, queue,
 use Rattle.rules.specs.Demand3.{Discarded}
 use Rattle.rules.proofs.Facts.{standing, eqb-no, countOf-le, countOf-lt}
 use Rattle.rules.proofs.Basic.{Moved, three, merge-f, merge-moved, deepen-f, deepen-moved}
-use Rattle.rules.proofs.Visits.{Going, later, Near, visit-cases, isolated-cases, visit-going, pass-going, times-keep, eqb-is, eqb-ne, stands, k≢t, k-slot, t-slot, target-stands}
+use Rattle.rules.proofs.Visits.{Going, later, Near, visit-cases, isolated-cases, visit-going, times-keep, eqb-is, eqb-ne, k≢t, k-slot, t-slot, target-stands}
 use Rattle.rules.proofs.Early.{Early, prepareStage2-going, settled}
 use Rattle.rules.proofs.Whole.{early, stage2-passes}
 use Rattle.rules.proofs.Outputs.{area-pos, area-le}

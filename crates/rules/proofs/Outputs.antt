@@ -1,24 +1,24 @@
 -- With no label 0 on the image, every standing cluster is put out, and the first output that holds a pixel owns it.
 use mathlib.Core.Path.{_≡_, refl, sym, ap, ap₂, _∙_, subst}
 use mathlib.Core.Logic.{_≢_, _⊎_, inl, inr}
-use mathlib.Core.Bool.{Bool, true, false, not, _&&_, _||_, true≢false}
+use mathlib.Core.Bool.{Bool, true, false, _||_}
 use mathlib.Core.List.{List, [], _∷_, _++_}
 use Prim.Native.Nat.{ℕ, zero, suc, _+_, _*_, _≤_, _<_}
 use native.Mathlib.Decide.{ℕ-discrete}
 use native.Mathlib.Omega.{arith}
-use lib.Dec.{T, eqb, ltb, leb, ltb→lt, lt→ltb, nltb→le, le→leb, leb→le}
+use lib.Dec.{T, eqb, leb, le→leb}
 use lib.ListN.{length, getD, length-append}
-use Rattle.rules.specs.Base.{if_then_else_, noneAbove, times, insert, least, keep}
+use Rattle.rules.specs.Base.{if_then_else_, noneAbove, times, insert, keep}
 use Rattle.rules.specs.Color.{RunnerConfig, discards}
 use Rattle.rules.specs.State.{State, Cluster, newCluster, cluster, label, area, emptied, withCluster, withResidue, mergedTo, deeper, put, merge, deepen, plain, deepened}
-use Rattle.rules.specs.Stage2.{prepareStage2, areasOf, neighbours, isolated, visit, pass, passes}
-use Rattle.rules.specs.Ledger.{Held, enter, ledger, owned}
+use Rattle.rules.specs.Stage2.{areasOf, neighbours, isolated, visit, pass, passes}
+use Rattle.rules.specs.Ledger.{Held, enter, ledger}
 use Rattle.rules.specs.Claim.{bit, occurs, countOf, Stands}
-use Rattle.rules.proofs.Facts.{is-true, is-false, T-dec, T-bit, bit-T, eqb-yes, eqb-no, countOf-before, countOf-one, occurs-append}
+use Rattle.rules.proofs.Owned.{owned}
+use Rattle.rules.proofs.Facts.{is-true, T-dec, T-bit, bit-T, eqb-yes, eqb-no, countOf-one, occurs-append}
 use Rattle.rules.proofs.Forest.{Inside, inside-not}
-use Rattle.rules.proofs.Basic.{Basic, Moved, three, merge-f, merge-moved, deepen-f, deepen-moved, lab-from, lab-other, plain-down, plain-o, deepened-down, deepened-o}
-use Rattle.rules.proofs.Sound.{Sound}
-use Rattle.rules.proofs.Visits.{Going, pass-going, All, insert-all, Near, visit-cases, visit-going, times-keep, eqb-is, eqb-ne}
+use Rattle.rules.proofs.Basic.{Basic, Moved, three, merge-moved, deepen-f, deepen-moved, lab-from, lab-other, plain-down, plain-o, deepened-o}
+use Rattle.rules.proofs.Visits.{Going, pass-going, All, insert-all, Near, visit-cases, visit-going, times-keep}
 use Rattle.rules.proofs.Visits.{stands, root, mine, target-stands, target-root, k≢t, k-slot, t-slot, merge-going, deepen-going}
 use Rattle.rules.proofs.Painting.{First}
 use Rattle.rules.proofs.Connected.{covers}

@@ -12,17 +12,17 @@ use Rattle.rules.specs.Base.{if_then_else_, each, eachBack, timesBack}
 use Rattle.rules.specs.Color.{RunnerConfig, ColorSum, average, hasAverage}
 use Rattle.rules.specs.State.{State, cluster}
 use Rattle.rules.specs.Run.{run}
-use Rattle.rules.specs.Layout.{slotWidth, firstOf, link, links, walk, sumNumbers, slot}
+use Rattle.rules.specs.Layout.{slotWidth, firstOf, link, walk, sumNumbers, slot}
 use Rattle.rules.specs.Picture.{paintPixel, paintCluster, paint}
 use Rattle.rules.specs.Ledger.{Held, ledger}
-use Rattle.rules.specs.Claim.{occurs, bit, Paintable}
+use Rattle.rules.specs.Claim.{occurs, bit}
 use Rattle.rules.specs.Ranges.{Below}
 use Rattle.rules.specs.Paint.{reads, Painted, slotNumber, fiveFrom, sumOf, residueOf, pixelsOf, entryAnswer, entriesAnswer, paintSlot, paintEntries, painting, Lies}
 use Rattle.rules.specs.Demand3.{Agrees}
 use Rattle.rules.proofs.Facts.{eqb-no, eqb-yes, bit-T}
 use Rattle.rules.proofs.Visits.{eqb-is}
 use Rattle.rules.proofs.Outputs.{In}
-use Rattle.rules.proofs.Pictures.{run-paintable}
+use Rattle.rules.proofs.Pictures.{Paintable, run-paintable}
 use Rattle.rules.proofs.Moments.{run-returned}
 use Rattle.rules.proofs.Ranges.{pixels-below}
 

@@ -1,21 +1,20 @@
 -- What painting leaves at a pixel: the colour of the first output that holds it.
-use mathlib.Core.Path.{_≡_, refl, sym, ap, ap₂, _∙_, subst}
+use mathlib.Core.Path.{_≡_, refl, sym, ap, _∙_, subst}
 use mathlib.Core.Logic.{_≢_, _⊎_, inl, inr}
-use mathlib.Core.Bool.{Bool, true, false, not, _&&_, _||_}
-use mathlib.Core.List.{List, [], _∷_, _++_}
-use Prim.Native.Nat.{ℕ, zero, suc, _+_, _*_, _≤_, _<_}
+use mathlib.Core.List.{List, [], _∷_}
+use Prim.Native.Nat.{ℕ, suc, _+_, _*_, _<_}
 use native.Mathlib.Decide.{ℕ-discrete}
 use native.Mathlib.Omega.{arith}
 use lib.Dec.{T, eqb}
 use lib.ListN.{length, getD, set, replicate, length-set, length-replicate}
-use lib.Seq.{sets, length-sets, getD-set-same, getD-set-other}
-use Rattle.rules.specs.Base.{if_then_else_, each, eachBack, keep}
-use Rattle.rules.specs.Color.{Color, rgba, pixel, average}
+use lib.Seq.{length-sets, getD-set-same, getD-set-other}
+use Rattle.rules.specs.Base.{each, eachBack}
+use Rattle.rules.specs.Color.{Color, pixel, average}
 use Rattle.rules.specs.State.{State, cluster}
 use Rattle.rules.specs.Picture.{paintPixel, paintCluster, paint}
 use Rattle.rules.specs.Ledger.{Held}
 use Rattle.rules.specs.Claim.{bit, occurs}
-use Rattle.rules.proofs.Facts.{T-dec, T-bit, is-false, eqb-yes, eqb-no}
+use Rattle.rules.proofs.Facts.{T-bit, is-false, eqb-yes, eqb-no}
 
 set-here : (l : List ℕ) (i j a : ℕ) → i ≡ j → j < length l → getD (set l i a) j 0 ≡ a
 set-here l i j a e h = subst (λ m. getD (set l m a) j 0 ≡ a) (sym e) (getD-set-same l j a 0 h)

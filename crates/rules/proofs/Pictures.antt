@@ -1,22 +1,23 @@
 -- The picture clause of demand 3: keying off.
 use mathlib.Core.Path.{_≡_, refl, sym, ap, _∙_, subst}
 use mathlib.Core.Logic.{_↔_, _≢_, _⊎_, inl, inr}
-use mathlib.Core.Bool.{Bool, true, false, not}
+use mathlib.Core.Bool.{Bool, true, false}
 use mathlib.Core.List.{List, [], _∷_}
 use Prim.Native.Nat.{ℕ, zero, suc, _+_, _*_, _≤_, _<_}
 use native.Mathlib.Decide.{ℕ-discrete}
 use native.Mathlib.Omega.{arith}
 use lib.Dec.{T, eqb, ltb, lt→ltb, ltb→lt}
-use lib.ListN.{length, getD, length-map}
+use lib.ListN.{length, getD}
 use Rattle.rules.specs.Base.{if_then_else_, keep}
 use Rattle.rules.specs.Color.{RunnerConfig, ColorSum, keyingOn, pixel, average, one, _⊕_}
-use Rattle.rules.specs.State.{State, cluster, label, area, withResidue}
-use Rattle.rules.specs.Stage2.{passes, prepareStage2}
+use Rattle.rules.specs.State.{Cluster, State, cluster, label, area, withResidue}
+use Rattle.rules.specs.Stage2.{prepareStage2}
 use Rattle.rules.specs.Picture.{paint}
 use Rattle.rules.specs.Run.{run, stage1, stage2, dropEmpty}
-use Rattle.rules.specs.Ledger.{Held, ledger, owned}
+use Rattle.rules.specs.Ledger.{ledger}
 use Rattle.rules.specs.Demand3.{Discarded, stateView, Shown}
-use Rattle.rules.specs.Claim.{bit, occurs, tally, countOf, Stands, Smallest, Paintable}
+use Rattle.rules.specs.Claim.{bit, occurs, tally, countOf, Stands, Smallest}
+use Rattle.rules.proofs.Owned.{owned}
 use Rattle.rules.proofs.Facts.{is-true, countOf-lt, countOf-some, countOf-none}
 use Rattle.rules.proofs.Basic.{Basic}
 use Rattle.rules.proofs.Sound.{Sound}
@@ -25,6 +26,16 @@ use Rattle.rules.proofs.Early.{Early, prepareStage2-going, settled}
 use Rattle.rules.proofs.Whole.{early, stage2-passes, going, fewer}
 use Rattle.rules.proofs.Painting.{First, paint-first}
 use Rattle.rules.proofs.Outputs.{Shows, In, passes-shows, all-out, areas-le, area-le, area-pos, area-countOf, first-find, first-holds, first-keep, in-keep}
+
+-- what painting asks of an output entry k, with n slots: refusals 8, 9 and the first half of 10 do not arise
+pub record Paintable (size n : ℕ) (c : Cluster) (k : ℕ) : Type 0 where
+  pub slot : k < n
+  pub some : 0 < c .residue .count
+  pub r : c .residue .r ≤ 255 * c .residue .count
+  pub g : c .residue .g ≤ 255 * c .residue .count
+  pub b : c .residue .b ≤ 255 * c .residue .count
+  pub a : c .residue .a ≤ 255 * c .residue .count
+  pub pixels : length (c .pixels) ≤ size
 
 pub tally-count : (image : List ℕ) (f : ℕ → Bool) (n : ℕ) → tally image f n .count ≡ countOf f n
 unfolding tally countOf one _⊕_

@@ -1,39 +1,40 @@
 -- Every number of a run is in its range, at every moment, before every turn, and at the end.
 use mathlib.Core.Path.{_≡_, refl, sym, ap, _∙_, subst}
-use mathlib.Core.Logic.{_≢_, _⊎_, inl, inr}
-use mathlib.Core.Bool.{Bool, true, false, not, _&&_, _||_}
-use mathlib.Core.List.{List, [], _∷_, _++_, map}
+use mathlib.Core.Logic.{_≢_}
+use mathlib.Core.Bool.{Bool, true, false, _||_}
+use mathlib.Core.List.{List, [], _∷_, _++_}
 use Prim.Native.Nat.{ℕ, zero, suc, _+_, _*_, _≤_, _<_}
-use native.Mathlib.Decide.{ℕ-discrete, decLt}
+use native.Mathlib.Decide.{ℕ-discrete}
 use native.Mathlib.Omega.{arith}
 use lib.Dec.{T, eqb, ltb, lt→ltb, ltb→lt, eqb→eq}
-use lib.ListN.{length, getD, length-append, length-map, List·getD-eq-default}
+use lib.ListN.{length, getD, length-append, length-map}
 use Rattle.rules.specs.Base.{if_then_else_, keep}
 use Rattle.rules.specs.Color.{RunnerConfig, ColorSum, one, _⊕_, pixel, keyingOn}
-use Rattle.rules.specs.State.{State, Cluster, newCluster, cluster, label, area, emptied, withCluster, mergedTo, deeper, withResidue, put, merge, deepen, plain, deepened}
+use Rattle.rules.specs.State.{State, cluster, label, area, emptied, withCluster, mergedTo, deeper, withResidue, put, merge, deepen}
 use Rattle.rules.specs.Stage1.{taken}
 use Rattle.rules.specs.Stage2.{visit, prepareStage2}
 use Rattle.rules.specs.Run.{stage1, stage2, run, dropEmpty}
 use Rattle.rules.specs.Layout.{after, firstOf, link}
 use Rattle.rules.specs.Refusals.{largestTotal, sumAnswer}
-use Rattle.rules.specs.Ledger.{Held, ledger, owned}
+use Rattle.rules.specs.Ledger.{Held, ledger}
 use Rattle.rules.specs.Claim.{bit, occurs, tally, countOf, Stands}
 use Rattle.rules.specs.Moments.{moments, Each}
 use Rattle.rules.specs.Order.{start, turns}
 use Rattle.rules.specs.Ranges.{Fits, OnImage, Below, Ranged}
 use Rattle.rules.specs.Demand3.{Discarded, Agrees}
-use Rattle.rules.proofs.Facts.{is-false, standing, T-bit, bit-T, eqb-yes, countOf-le, tally-or, tally-one}
-use Rattle.rules.proofs.Basic.{Basic, Moved, three, plain-to, plain-up, deepened-to, merge-f, merge-t, merge-moved, deepen-f, deepen-t, deepen-moved}
+use Rattle.rules.proofs.Owned.{owned}
+use Rattle.rules.proofs.Facts.{is-false, standing, bit-T, eqb-yes, countOf-le, tally-or, tally-one}
+use Rattle.rules.proofs.Basic.{Basic, Moved, three, plain-to, plain-up, merge-f, merge-t, merge-moved, deepen-f, deepen-t, deepen-moved}
 use Rattle.rules.proofs.Sound.{Sound}
-use Rattle.rules.proofs.Visits.{Going, Near, visit-cases, isolated-cases, stands, root, k≢t, k-slot, t-slot, target-root, target-stands, merge-going, deepen-going}
+use Rattle.rules.proofs.Visits.{Going, Near, visit-cases, isolated-cases, stands, k≢t, k-slot, t-slot, target-stands, merge-going}
 use Rattle.rules.proofs.Early.{Early, settled}
 use Rattle.rules.proofs.Whole.{early, early-at}
-use Rattle.rules.proofs.Outputs.{area-le, area-countOf}
+use Rattle.rules.proofs.Outputs.{area-le}
 use Rattle.rules.proofs.Pictures.{tally-count, tally-bytes}
 use Rattle.rules.proofs.Bounds.{Bounded, Root, rooted, waiting, root-out, fewer-roots}
 use Rattle.rules.proofs.Moments.{Between, moments-keep, stage2-keep, each-map}
-use Rattle.rules.proofs.Order.{Turning, turns-keep, start-turning}
-use Rattle.rules.proofs.Slots.{Slot, stage1-slots, both-rects, no-rect}
+use Rattle.rules.proofs.Order.{turns-keep, start-turning}
+use Rattle.rules.proofs.Slots.{stage1-slots, both-rects, no-rect}
 
 countOf-fits : (f : ℕ → Bool) (n : ℕ) → countOf f n ≤ n
 unfolding countOf

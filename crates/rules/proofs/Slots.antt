@@ -1,24 +1,23 @@
 -- What stage 1 leaves in a slot: no holes, depth 0, nothing in the residue, a rectangle on the image.
-use mathlib.Core.Path.{_≡_, refl, sym, ap, _∙_, subst}
-use mathlib.Core.Logic.{_≢_, _⊎_, inl, inr}
-use mathlib.Core.Bool.{Bool, true, false, not, _&&_, _||_}
+use mathlib.Core.Path.{_≡_, refl, sym, _∙_, subst}
+use mathlib.Core.Bool.{Bool, true, false, _&&_}
 use mathlib.Core.List.{List, [], _∷_, _++_}
-use mathlib.Core.Option.{Option, some}
+use mathlib.Core.Option.{some}
 use Prim.Native.Nat.{ℕ, zero, suc, _+_, _-_, _*_, _/_, _%_, _≤_, _<_, min, max}
 use native.Mathlib.Decide.{ℕ-discrete, decLt}
 use native.Mathlib.Nat.{mod-lt, div-lt-iff-lt-mul, mul-comm}
 use native.Mathlib.Omega.{arith}
-use lib.Dec.{T, eqb, ltb, leb, lt→ltb, ltb→lt}
+use lib.Dec.{T, eqb, ltb, leb}
 use lib.ListN.{length, getD, set, length-set, List·getD-eq-default}
 use lib.Seq.{getD-set-same, getD-set-other}
 use Rattle.rules.specs.Base.{if_then_else_, times}
-use Rattle.rules.specs.Color.{Color, RunnerConfig, ColorSum, zeroSum, pixel, isDiscard}
+use Rattle.rules.specs.Color.{Color, RunnerConfig, zeroSum, pixel, isDiscard}
 use Rattle.rules.specs.Grid.{up, left, upLeft}
-use Rattle.rules.specs.State.{State, Cluster, BoundingRect, emptyRect, isEmpty, mergeRect, newCluster, cluster, label, area, pixelRect, withPixel, fresh, add, beginCluster, combine, emptied, withCluster}
+use Rattle.rules.specs.State.{State, Cluster, BoundingRect, emptyRect, isEmpty, mergeRect, newCluster, cluster, area, pixelRect, withPixel, fresh, add, beginCluster, combine, emptied, withCluster}
 use Rattle.rules.specs.Stage1.{sameAt, labelAt, leftMeetsUp, lowerNext, isKey, place, takePixel, taken, combineThenPlace}
 use Rattle.rules.specs.Run.{stage1}
 use Rattle.rules.specs.Ranges.{OnImage}
-use Rattle.rules.proofs.Early.{Early, Placed, placed, fresh-cluster}
+use Rattle.rules.proofs.Early.{Placed, placed, fresh-cluster}
 use Rattle.rules.proofs.Whole.{early-at}
 
 pub no-rect : (w h : ℕ) → OnImage w h emptyRect

@@ -6,7 +6,7 @@ use Prim.Native.Nat.{ℕ, zero, suc, _+_, _≤_, _<_}
 use native.Mathlib.Decide.{ℕ-discrete}
 use native.Mathlib.Omega.{arith}
 use lib.Dec.{T, eqb, ltb, leb, lt→ltb, ltb→lt, le→leb, leb→le}
-use lib.ListN.{length, getD}
+use lib.ListN.{length}
 use Rattle.rules.specs.Base.{if_then_else_, times, upTo, keep, insertBy, sortBy}
 use Rattle.rules.specs.Color.{RunnerConfig}
 use Rattle.rules.specs.State.{State, cluster, area, put}

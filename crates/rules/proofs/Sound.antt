@@ -1,13 +1,13 @@
 -- What holds of a state throughout stage 2, and that a merge keeps it.
 use mathlib.Core.Path.{_≡_, refl, sym, ap, ap₂, _∙_, subst}
 use mathlib.Core.Logic.{_≢_, _⊎_, inl, inr}
-use mathlib.Core.Bool.{Bool, true, false}
-use mathlib.Core.List.{List, [], _∷_, _++_}
+use mathlib.Core.Bool.{Bool}
+use mathlib.Core.List.{List}
 use Prim.Native.Nat.{ℕ, _<_}
 use native.Mathlib.Decide.{ℕ-discrete}
 use lib.Dec.{T}
 use lib.ListN.{length}
-use Rattle.rules.specs.Color.{ColorSum, _⊕_}
+use Rattle.rules.specs.Color.{_⊕_}
 use Rattle.rules.specs.State.{State, cluster, label, withCluster, emptied, withResidue, mergedTo, deeper, merge, deepen, plain, deepened}
 use Rattle.rules.specs.Ledger.{Held, enter}
 use Rattle.rules.specs.Claim.{tally, Stands}

@@ -1,13 +1,13 @@
 -- What code may use when it takes its turn: all of it before turn m of a run, where slot k is picked.
-use mathlib.Core.Path.{_≡_, refl, sym, ap, _∙_, subst}
-use mathlib.Core.Bool.{Bool, true, false, not, _&&_, _||_}
-use mathlib.Core.List.{List, [], _∷_, _++_}
+use mathlib.Core.Path.{_≡_, refl, ap, _∙_, subst}
+use mathlib.Core.Bool.{not, _&&_, _||_}
+use mathlib.Core.List.{List, [], _∷_}
 use mathlib.Core.Option.{Option, some}
 use mathlib.Core.Option.{none as off}
-use Prim.Native.Nat.{ℕ, zero, suc, _+_, _*_, _≤_, _<_}
+use Prim.Native.Nat.{ℕ, zero, suc, _*_, _≤_, _<_}
 use native.Mathlib.Decide.{ℕ-discrete, decLt}
 use native.Mathlib.Omega.{arith}
-use lib.Dec.{T, eqb, ltb, leb}
+use lib.Dec.{eqb, ltb, leb}
 use lib.ListN.{length, getD, length-append, length-map}
 use Rattle.rules.specs.Base.{if_then_else_, noneAbove, member}
 use Rattle.rules.specs.Color.{RunnerConfig, isDiscard, exceeds}
@@ -15,24 +15,18 @@ use Rattle.rules.specs.Grid.{sides}
 use Rattle.rules.specs.State.{State, cluster, label, area, withResidue, put, merge, deepen}
 use Rattle.rules.specs.Stage1.{isKey}
 use Rattle.rules.specs.Stage2.{allIn, neighbours, diff, deepens, decide, visit, prepareStage2}
-use Rattle.rules.specs.Run.{stage1, stage2, dropEmpty, run}
+use Rattle.rules.specs.Run.{stage1}
 use Rattle.rules.specs.Order.{Queue, pick, rekey, queue, start, turn, turnOf, visited, turns, drained, largest, anyOf}
 use Rattle.rules.specs.Ledger.{ledger}
 use Rattle.rules.specs.Demand3.{Agrees}
 use Rattle.rules.proofs.Facts.{eqb-yes}
 use Rattle.rules.proofs.Basic.{merge-moved, deepen-moved}
 use Rattle.rules.proofs.Visits.{Going, root, k≢t, k-slot, t-slot, visit-cases, isolated-cases}
-use Rattle.rules.proofs.Whole.{early}
 use Rattle.rules.proofs.Bounds.{outputs-bound}
 use Rattle.rules.proofs.Order.{Picked, turning-picked, turns-keep, start-turning, turns-idle, turns-few, drained-stage2}
 use Rattle.rules.proofs.Largest.{none-above, turns-listed}
 use Rattle.rules.proofs.Interior.{deepens-interior, turns-hollowed}
 use Rattle.rules.proofs.Labels.{turns-agrees, member-label, interior-labels}
-
--- the run, by picking
-pub drained-run : (o : RunnerConfig) (w h : ℕ) (image : List ℕ) → run o w h image ≡ dropEmpty (drained o w h (prepareStage2 (stage1 o w h image)))
-unfolding run
-drained-run o w h image = ap dropEmpty (sym (drained-stage2 o w h image))
 
 pub record Ready (o : RunnerConfig) (w h : ℕ) (image : List ℕ) (q : Queue) (k : ℕ) : Type 0 where
   -- k has pixels, its key is its pixel count, and it is in the table
@@ -142,7 +136,3 @@ turns-table o w h image m = turns-keep o w h Whole step (start (prepareStage2 (s
         visit-cases o w h a k s Whole (λ x. W) (λ z l. W) (λ z l y. isolated-cases o w h a k s Whole W W)
         (λ z l t N. merge-moved k t s (k≢t a k s G pos e t N) (k-slot a k s G pos e t N) (t-slot a k s G pos e t N) .table ∙ W)
         (λ z l t N b. deepen-moved k t s (k≢t a k s G pos e t N) (k-slot a k s G pos e t N) (t-slot a k s G pos e t N) b .table ∙ W)
-
--- at most one for each pixel beside slot 0
-pub turns-slots : (o : RunnerConfig) (w h : ℕ) (image : List ℕ) (m : ℕ) → length (turns o w h m (start (prepareStage2 (stage1 o w h image))) .now .clusters) ≤ w * h + 1
-turns-slots o w h image m = omega (arith, turns-table o w h image m, early o w h image .short)

@@ -1,11 +1,11 @@
 -- Stage 2 keeps what holds: each visit, each pass, all of them.
 use mathlib.Core.Path.{_≡_, refl, sym, ap, _∙_, subst}
 use mathlib.Core.Logic.{_≢_, _⊎_, inl, inr}
-use mathlib.Core.Bool.{Bool, true, false, not, _&&_, _||_, true≢false}
-use mathlib.Core.List.{List, [], _∷_, _++_}
+use mathlib.Core.Bool.{Bool, true, false, not, _||_, true≢false}
+use mathlib.Core.List.{List, [], _∷_}
 use mathlib.Core.Option.{Option, some}
 use mathlib.Core.Option.{none as off}
-use Prim.Native.Nat.{ℕ, zero, suc, _+_, _≤_, _<_}
+use Prim.Native.Nat.{ℕ, zero, suc, _≤_, _<_}
 use native.Mathlib.Decide.{ℕ-discrete}
 use native.Mathlib.Omega.{arith}
 use lib.Dec.{T, eqb, ltb, leb, eqb→eq, ltb→lt, nltb→le}
@@ -13,12 +13,13 @@ use lib.ListN.{length, getD}
 use Rattle.rules.specs.Base.{if_then_else_, noneAbove, times, insert, least}
 use Rattle.rules.specs.Color.{RunnerConfig, discards}
 use Rattle.rules.specs.Grid.{sides}
-use Rattle.rules.specs.State.{State, cluster, label, area, emptied, mergedTo, put, merge, deepen, plain, deepened}
+use Rattle.rules.specs.State.{State, cluster, label, area, emptied, mergedTo, put, merge, deepen}
 use Rattle.rules.specs.Stage2.{labelsAt, labelsAround, neighbours, rank, deepens, isolated, mergeInto, decide, visit, pass, passes}
-use Rattle.rules.specs.Ledger.{Held, enter, ledger, owned}
-use Rattle.rules.specs.Claim.{bit, occurs, tally, Stands}
-use Rattle.rules.proofs.Facts.{is-true, is-false, eqb-yes, eqb-no, bit-T}
-use Rattle.rules.proofs.Basic.{Basic, Moved, three, merge-f, merge-moved, deepen-f, deepen-moved}
+use Rattle.rules.specs.Ledger.{Held, ledger}
+use Rattle.rules.specs.Claim.{bit, occurs, Stands}
+use Rattle.rules.proofs.Owned.{owned}
+use Rattle.rules.proofs.Facts.{eqb-yes, bit-T}
+use Rattle.rules.proofs.Basic.{Moved, three, merge-f, merge-moved, deepen-f, deepen-moved}
 use Rattle.rules.proofs.Sound.{Sound, plain-sound, deepened-sound}
 
 -- what each of n steps keeps, n steps keep

@@ -1,27 +1,25 @@
 -- What a sound state has of demand 3; stage 1 and stage 2 of every run; merges change nothing in which pixels are held.
-use mathlib.Core.Path.{_≡_, refl, sym, ap, _∙_, subst}
+use mathlib.Core.Path.{_≡_, refl, sym, subst}
 use mathlib.Core.Logic.{_↔_, _≢_, _⊎_, inl, inr}
-use mathlib.Core.Bool.{Bool, true, false, not, _&&_, _||_, true≢false}
-use mathlib.Core.List.{List, [], _∷_, _++_}
-use Prim.Native.Nat.{ℕ, zero, suc, _+_, _*_, _≤_, _<_}
+use mathlib.Core.Bool.{Bool, true, false, _&&_, true≢false}
+use mathlib.Core.List.{List}
+use Prim.Native.Nat.{ℕ, zero, suc, _*_, _≤_, _<_}
 use native.Mathlib.Decide.{ℕ-discrete}
 use native.Mathlib.Omega.{arith}
 use lib.Dec.{T, eqb}
-use lib.ListN.{length, getD}
-use Rattle.rules.specs.Base.{if_then_else_, times}
+use Rattle.rules.specs.Base.{if_then_else_}
 use Rattle.rules.specs.Color.{RunnerConfig, isDiscard, keyingOn, equalColor, pixel}
-use Rattle.rules.specs.State.{State, cluster, label, put, merge, deepen, plain, deepened}
+use Rattle.rules.specs.State.{State, cluster, label, put, merge, deepen, plain}
 use Rattle.rules.specs.Stage1.{isKey, taken}
-use Rattle.rules.specs.Stage2.{outputAll, pass, passes, visit, prepareStage2}
-use Rattle.rules.specs.Run.{run, stage1, stage2, dropEmpty}
-use Rattle.rules.specs.Ledger.{Held, enter, ledger, owned}
+use Rattle.rules.specs.Stage2.{outputAll, passes, prepareStage2}
+use Rattle.rules.specs.Run.{stage1, stage2}
+use Rattle.rules.specs.Ledger.{Held, enter, ledger}
 use Rattle.rules.specs.Demand3.{Discarded}
 use Rattle.rules.specs.Claim.{bit, occurs, tally, countOf, Stands, Holds, InResidue}
-use Rattle.rules.proofs.Facts.{T-dec, countOf-lt, countOf-some}
-use Rattle.rules.proofs.Forest.{Forest, Inside, inside-not, residue-in, residue-out}
-use Rattle.rules.proofs.Basic.{Basic}
+use Rattle.rules.proofs.Facts.{countOf-lt, countOf-some}
+use Rattle.rules.proofs.Forest.{Inside, residue-in, residue-out}
 use Rattle.rules.proofs.Sound.{Sound}
-use Rattle.rules.proofs.Visits.{Going, passes-going, pass-going, visit-going, visit-cases, isolated-cases, times-keep, k≢t, eqb-is}
+use Rattle.rules.proofs.Visits.{Going, passes-going, eqb-is}
 use Rattle.rules.proofs.Basic.{plain-down, plain-to, plain-up, deepened-down, deepened-up}
 use Rattle.rules.proofs.Early.{Early, taken-early, fresh-early, prepareStage2-going}
 use Rattle.rules.proofs.Outputs.{area-le}

@@ -44,13 +44,14 @@ leaves s b = record {
   work = replicate (length (b .work)) 0;
 }
 
+-- a refused run: zero counts, and no buffer changes
+abbrev pub refused : ℕ → Buffers → Ran
+refused number b = record { number = number; n = 0; m = 0; buffers = b }
+
 module _ (o : RunnerConfig) (w h : ℕ) (image : List ℕ) where
   unfoldable pub accepted : Buffers → Ran
   unfolding leaves run
   accepted b = let s = run o w h image in record { number = 0; n = length (s .clusters); m = length (s .outputs); buffers = leaves s b }
-
-  abbrev pub refused : ℕ → Buffers → Ran
-  refused number b = record { number = number; n = 0; m = 0; buffers = b }
 
   -- the number that `run` answers when it is lent b
   unfoldable pub runNumber : Buffers → ℕ
@@ -84,7 +85,7 @@ module _ (o : RunnerConfig) (w h : ℕ) (image : List ℕ) where
   runAndPaintCall b picture =
       if eqb (runAndPaintNumber b picture) 0
       then record { ran = accepted o w h image b; picture = paint (w * h) (run o w h image) }
-      else record { ran = refused o w h image (runAndPaintNumber b picture) b; picture = picture }
+      else record { ran = refused (runAndPaintNumber b picture) b; picture = picture }
 
 -- the part of the picture that a row call hands back; a refused call hands back the first zero bytes
 unfoldable pub rowCall : ℕ → ℕ → List ℕ → ℕ → List ℕ

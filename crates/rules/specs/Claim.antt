@@ -2,12 +2,10 @@
 use mathlib.Core.Logic.{_≢_}
 use mathlib.Core.Bool.{Bool, true, false}
 use mathlib.Core.List.{List, [], _∷_}
-use Prim.Native.Nat.{ℕ, zero, suc, _+_, _*_, _≤_, _<_}
+use Prim.Native.Nat.{ℕ, zero, suc, _+_, _<_}
 use lib.Dec.{T, eqb}
-use lib.ListN.{length}
 use Rattle.rules.specs.Base.{if_then_else_}
 use Rattle.rules.specs.Color.{ColorSum, zeroSum, one, _⊕_, pixel}
-use Rattle.rules.specs.State.{Cluster}
 use Rattle.rules.specs.Ledger.{Held}
 
 abbrev pub bit : Bool → ℕ
@@ -44,13 +42,3 @@ InResidue h size k p = T (h k p) × ((j : ℕ) → Holds h k j → countOf (h j)
 -- k is the smallest standing cluster that holds p
 abbrev pub Smallest : Held → ℕ → ℕ → ℕ → Type 0
 Smallest h size p k = T (h k p) × ((j : ℕ) → T (h j p) → j ≢ k → countOf (h k) size < countOf (h j) size)
-
--- what painting asks of an output entry k, with n slots: refusals 8, 9 and the first half of 10 do not arise
-pub record Paintable (size n : ℕ) (c : Cluster) (k : ℕ) : Type 0 where
-  pub slot : k < n
-  pub some : 0 < c .residue .count
-  pub r : c .residue .r ≤ 255 * c .residue .count
-  pub g : c .residue .g ≤ 255 * c .residue .count
-  pub b : c .residue .b ≤ 255 * c .residue .count
-  pub a : c .residue .a ≤ 255 * c .residue .count
-  pub pixels : length (c .pixels) ≤ size

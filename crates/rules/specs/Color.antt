@@ -63,6 +63,10 @@ averageOrNone s = if hasAverage s then some (average s) else none
 pub data KeyingAction : Type 0 where
   Keep Discard : KeyingAction
 
+-- `HIERARCHICAL_MAX`: every area is clustered
+abbrev pub hierarchicalMax : ℕ
+hierarchicalMax = 4294967295
+
 -- the settings, with the Rust's names
 pub record RunnerConfig : Type 0 where
   pub isSameColorA : ℤ

@@ -5,17 +5,16 @@ use mathlib.Core.List.{List, [], _∷_, _++_, map}
 use Prim.Native.Nat.{ℕ, _+_, _*_}
 use lib.IntN.{ℤ, pos, negsuc}
 use lib.ListN.{length, replicate}
-use Rattle.rules.specs.Color.{ColorSum, RunnerConfig, rgba, Keep}
+use Rattle.rules.specs.Color.{ColorSum, hierarchicalMax, RunnerConfig, rgba, Keep}
 use Rattle.rules.specs.Paint.{Painted}
 use Rattle.rules.specs.Refusals.{runAnswer, runAndPaintAnswer, rowAnswer, sumAnswer, paintAnswer, storeAnswer}
 use Rattle.rules.specs.Calls.{Buffers, runCall, paintCall, storeCall, rowCall, sumCall, StoredSheet}
-use Rattle.rules.specs.Worked.{all}
 
 abbrev shifted : ℤ → RunnerConfig
 shifted shift = record {
   isSameColorA = shift;
   isSameColorB = pos 1;
-  hierarchical = all;
+  hierarchical = hierarchicalMax;
   goodMinArea = 16;
   goodMaxArea = 65536;
   hollowNeighbours = 1;

@@ -20,11 +20,3 @@ enter (deepened f t) h j q = if eqb j t then h t q || h f q else h j q
 abbrev pub ledger : List Event → Held
 ledger [] = λ j q. false
 ledger (e ∷ es) = enter e (ledger es)
-
--- The ledger without the deepening merges: for each cluster the pixels whose colours are in its residue.
--- No claim reads this; it is what the residue is shown to be.
-abbrev pub owned : List Event → Held
-owned [] = λ j q. false
-owned (added p k ∷ es) = enter (added p k) (owned es)
-owned (plain f t ∷ es) = enter (plain f t) (owned es)
-owned (deepened f t ∷ es) = owned es

@@ -24,12 +24,6 @@ unfoldable pub pick : List ℕ → Option ℕ
 unfolding better
 pick keys = times (length keys) (better keys) off
 
--- of the best of some slots and the best of later ones, the better: what a node of a tournament tree holds
-unfoldable pub win : List ℕ → Option ℕ → Option ℕ → Option ℕ
-win keys off y = y
-win keys (some i) off = some i
-win keys (some i) (some j) = if ltb (getD keys j 0) (getD keys i 0) then some j else some i
-
 -- where the newest event went to
 abbrev pub target : List Event → ℕ
 target [] = 0

@@ -47,7 +47,7 @@ module _ (w h : ℕ) where
 
   -- 5, a caller's counts
   abbrev pub badCounts : ℕ → ℕ → Bool
-  badCounts n m = ltb (w * h + 1) n || ltb (2 * (w * h)) m
+  badCounts n m = ltb (w * h + 1) n || ltb (outputsLength (w * h)) m
 
   -- the checks of `run`; image, labels, links, table, outputs and work are lengths
   abbrev pub runChecks : RunnerConfig → ℕ → ℕ → ℕ → ℕ → ℕ → ℕ → List Check

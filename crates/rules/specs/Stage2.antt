@@ -7,7 +7,7 @@ use Prim.Native.Nat.{ℕ, suc, _+_, _-_}
 use lib.Dec.{leb, ltb, eqb}
 use lib.ListN.{length, getD}
 use Rattle.rules.specs.Base.{if_then_else_, times, upTo, member, noneAbove, insert, keep, sortBy, least}
-use Rattle.rules.specs.Color.{RunnerConfig, discards, colorDiff, average, exceeds}
+use Rattle.rules.specs.Color.{hierarchicalMax, RunnerConfig, discards, colorDiff, average, exceeds}
 use Rattle.rules.specs.Grid.{sides}
 use Rattle.rules.specs.State.{State, Cluster, cluster, label, area, withResidue, put, merge, deepen}
 
@@ -100,7 +100,7 @@ module _ (o : RunnerConfig) (w h : ℕ) where
   unfolding boundary diff
   deepens s k t =
       let a = area (cluster s k) in
-      eqb (o .hierarchical) 4294967295 && ltb (o .goodMinArea) a && ltb a (o .goodMaxArea)
+      eqb (o .hierarchical) hierarchicalMax && ltb (o .goodMinArea) a && ltb a (o .goodMaxArea)
       && (eqb (o .goodMinArea) 0 || ltb (boundary w h s k) a) && exceeds (diff s k t) (o .deepenDiff)
 
   -- cluster k with the neighbours x ∷ xs goes into the one of the smallest rank; hollow: at most `hollow_neighbours` neighbours

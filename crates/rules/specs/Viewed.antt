@@ -2,15 +2,15 @@
 use mathlib.Core.Path.{_≡_, refl}
 use mathlib.Core.List.{[], _∷_, _++_, map}
 use lib.ListN.{replicate, take, drop}
-use Rattle.rules.specs.Color.{zeroSum}
+use Rattle.rules.specs.Color.{zeroSum, hierarchicalMax}
 use Rattle.rules.specs.Paint.{pixelsOf, fiveFrom}
 use Rattle.rules.specs.Calls.{Ran, runCall}
 use Rattle.rules.specs.Demand3.{View, bufferView}
-use Rattle.rules.specs.Worked.{B, W, small, all, total}
+use Rattle.rules.specs.Worked.{B, W, small, total}
 
 -- lent more than it asks for, and nines
 abbrev ran : Ran
-ran = runCall (small all 64) 2 1 (B ++ W) (record { labels = replicate 3 9; links = replicate 3 9; table = replicate 84 9; outputs = replicate 5 9; work = replicate 25 9 })
+ran = runCall (small hierarchicalMax 64) 2 1 (B ++ W) (record { labels = replicate 3 9; links = replicate 3 9; table = replicate 84 9; outputs = replicate 5 9; work = replicate 25 9 })
 
 abbrev view : View
 view = bufferView (ran .n) (ran .buffers .labels) (ran .buffers .links) (ran .buffers .table)

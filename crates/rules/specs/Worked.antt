@@ -4,7 +4,7 @@ use mathlib.Core.List.{List, [], _∷_, _++_, map}
 use Prim.Native.Nat.{ℕ, _*_}
 use lib.IntN.{pos}
 use lib.ListN.{length}
-use Rattle.rules.specs.Color.{Color, ColorSum, rgba, RunnerConfig, KeyingAction, Keep, Discard}
+use Rattle.rules.specs.Color.{Color, ColorSum, rgba, hierarchicalMax, RunnerConfig, KeyingAction, Keep, Discard}
 use Rattle.rules.specs.State.{State, cluster}
 use Rattle.rules.specs.Picture.{paint}
 use Rattle.rules.specs.Run.{run, stage1}
@@ -81,12 +81,8 @@ config hierarchical min diff key action = record {
   keyingAction = action;
 }
 
--- `HIERARCHICAL_MAX`
-abbrev pub all : ℕ
-all = 4294967295
-
 abbrev pub defaults : RunnerConfig
-defaults = config all 16 64 (rgba 0 0 0 0) Keep
+defaults = config hierarchicalMax 16 64 (rgba 0 0 0 0) Keep
 
 -- H3 to H6: the smallest area is 0
 abbrev pub small : ℕ → ℕ → RunnerConfig
@@ -94,7 +90,7 @@ small hierarchical diff = config hierarchical 0 diff (rgba 0 0 0 0) Keep
 
 -- H7 to H10: the key is K
 abbrev keyed : KeyingAction → RunnerConfig
-keyed action = config all 16 64 (rgba 255 0 255 255) action
+keyed action = config hierarchicalMax 16 64 (rgba 255 0 255 255) action
 
 abbrev pub total : ℕ → ℕ → ℕ → ℕ → ℕ → ColorSum
 total r g b a count = record { r = r; g = g; b = b; a = a; count = count }
@@ -117,13 +113,13 @@ dim = 127 ∷ 0 ∷ 127 ∷ 255 ∷ []
 abbrev mix : List ℕ
 mix = 191 ∷ 0 ∷ 191 ∷ 255 ∷ []
 
-abbrev pub table : List Case
-table =
+abbrev pub cases : List Case
+cases =
     case 1 1 P defaults (slotCount 2 ∷ outputs (1 ∷ []) ∷ picture P ∷ [])  -- H1
     ∷ case 2 2 (P ++ P ++ P ++ P) defaults (stage1Labels (1 ∷ 2 ∷ 2 ∷ 2 ∷ []) ∷ slotCount 4 ∷ outputs (2 ∷ []) ∷ list 2 (1 ∷ 2 ∷ 3 ∷ 0 ∷ []) ∷ [])  -- H2
-    ∷ case 2 1 (B ++ W) (small all 64) deepened  -- H3
-    ∷ case 2 1 (B ++ W) (small all 764) deepened  -- H3 with `deepen_diff` 764
-    ∷ case 2 1 (B ++ W) (small all 765) merged  -- H4
+    ∷ case 2 1 (B ++ W) (small hierarchicalMax 64) deepened  -- H3
+    ∷ case 2 1 (B ++ W) (small hierarchicalMax 764) deepened  -- H3 with `deepen_diff` 764
+    ∷ case 2 1 (B ++ W) (small hierarchicalMax 765) merged  -- H4
     ∷ case 2 1 (B ++ W) (small 0 64) (outputs (1 ∷ 2 ∷ []) ∷ [])  -- H5
     ∷ case 2 1 (B ++ W) (small 1 64) merged  -- H6
     ∷ case 1 1 K (keyed Keep) (slotCount 1 ∷ outputs (0 ∷ []) ∷ picture K ∷ [])  -- H7
@@ -133,6 +129,6 @@ table =
     ∷ case 2 2 (K ++ K ++ B ++ N) (keyed Keep) (list 1 (2 ∷ 0 ∷ 1 ∷ 3 ∷ []) ∷ outputs (1 ∷ []) ∷ picture (mix ++ mix ++ mix ++ mix) ∷ [])  -- H10
     ∷ []
 
-pub H1-to-H10 : map worked table ≡ map (λ c. c .facts) table
+pub H1-to-H10 : map worked cases ≡ map (λ c. c .facts) cases
 unfolding worked
 H1-to-H10 = refl
