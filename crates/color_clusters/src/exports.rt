@@ -58,8 +58,8 @@ fn config(
     }
 }
 
-// `runner::run`, with the settings one by one.
 #[no_mangle]
+// `runner::run`, with the settings one by one.
 pub extern "C" fn color_clusters_run(
     is_same_color_a: i32,
     is_same_color_b: i32,
@@ -101,8 +101,8 @@ pub extern "C" fn color_clusters_run(
     runner::run(o, w, h, image, labels, links, table, outputs, work)
 }
 
-// `run_and_paint`, with the settings one by one.
 #[no_mangle]
+// `run_and_paint`, with the settings one by one.
 pub extern "C" fn color_clusters_run_and_paint(
     is_same_color_a: i32,
     is_same_color_b: i32,
@@ -146,8 +146,8 @@ pub extern "C" fn color_clusters_run_and_paint(
     crate::run_and_paint(o, w, h, image, labels, links, table, outputs, work, picture)
 }
 
-// `container::to_color_image`.
 #[no_mangle]
+// `container::to_color_image`.
 pub extern "C" fn color_clusters_paint(
     w: u32,
     h: u32,
@@ -163,16 +163,16 @@ pub extern "C" fn color_clusters_paint(
     container::to_color_image(w, h, links, table, outputs, picture, n, m)
 }
 
-// `sheet::row_check`.
 #[no_mangle]
+// `sheet::row_check`.
 pub extern "C" fn color_clusters_row_check(w: u32, h: u32, picture: &[u8], y: u32) -> u32
     ensures { λ r. ⌜ r ≡ rowAnswer w h (length (now (picture .entry))) y ⌝ }
 {
     sheet::row_check(w, h, picture, y)
 }
 
-// `sheet::store`.
 #[no_mangle]
+// `sheet::store`.
 pub extern "C" fn color_clusters_store(
     w: u32,
     h: u32,

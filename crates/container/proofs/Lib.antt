@@ -2,7 +2,6 @@
 pub mod Leads
 pub mod Entries
 pub mod Passes
-pub mod Zeros
 pub mod Covered
 pub mod Pictures
 pub mod Stretches

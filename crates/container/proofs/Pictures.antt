@@ -3,11 +3,9 @@ use mathlib.Core.Path.{_≡_, sym, ap, _∙_}
 use mathlib.Core.List.{List}
 use Prim.Native.Nat.{ℕ, _+_, _*_, _-_, _≤_, _<_}
 use native.Mathlib.Omega.{arith}
-use lib.ListN.{length, getD, replicate, length-replicate}
-use Rattle.rules.specs.Base.{each, timesBack}
+use lib.ListN.{getD, replicate, length-replicate}
+use Rattle.rules.specs.Base.{timesBack}
 use Rattle.rules.specs.Color.{average}
-use Rattle.rules.specs.Layout.{walk}
-use Rattle.rules.specs.Picture.{paintPixel}
 use Rattle.rules.specs.Paint.{Painted, slotNumber, residueOf, pixelsOf, entriesAnswer, paintSlot, paintEntries, painting}
 use Rattle.container.specs.Filled.{filled}
 use Rattle.container.specs.Covered.{Whole}

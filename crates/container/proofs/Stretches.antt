@@ -13,7 +13,7 @@ use Rattle.rules.specs.Color.{Color}
 use Rattle.rules.specs.Layout.{walk}
 use Rattle.rules.specs.Picture.{paintPixel}
 use Rattle.rules.specs.Paint.{reads}
-use Rattle.rules.proofs.Walks.{Step, step, walk-none}
+use Rattle.rules.proofs.Walks.{step, walk-none}
 use Rattle.container.specs.Leads.{Leads}
 use Rattle.container.specs.Stretch.{paintAlong}
 use Rattle.container.proofs.Leads.{leads-on, leads-more, leads-reads, reads-leads, leads-walk}

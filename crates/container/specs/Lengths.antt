@@ -1,6 +1,6 @@
 -- What is known of the lengths of lent buffers when the checks of a call are passed.
 use mathlib.Core.Path.{_≡_}
-use Prim.Native.Nat.{ℕ, _+_, _*_, _≤_, _<_}
+use Prim.Native.Nat.{ℕ, _*_, _≤_, _<_}
 use Rattle.rules.specs.Refusals.{limit}
 
 -- painting: links, table, outputs and picture are lengths

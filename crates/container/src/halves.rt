@@ -8,6 +8,7 @@ ghost use Rattle.rules.specs.Paint.{reads};
 ghost use Rattle.color.specs.Colors.{colorOf};
 ghost use Rattle.container.specs.Leads.{Leads};
 ghost use Rattle.container.specs.Stretch.{paintAlong};
+use crate::quick;
 use color::Color;
 
 // Where three walks along the links stand: pixel numbers plus one. Pixels are painted at x and y; z only goes along.
@@ -100,12 +101,6 @@ fn paint_both_and_look(
     Cursors { x: x, y: y, z: z }
 }
 
-fn smaller(a: u32, b: u32) -> u32
-    ensures { λ r. ⌜ (r ≤ a) × (r ≤ b) ⌝ }
-{
-    if a < b { a } else { b }
-}
-
 // Paints the count pixels from at.x, whose middle is at.y, and answers where ahead links from at.z lead.
 pub(crate) fn paint_halves(
     links: &[u32],
@@ -120,7 +115,7 @@ pub(crate) fn paint_halves(
     ensures { λ r. ⌜ Leads size (now (links .entry)) (at .z) ahead r × (now (picture .exit) ≡ paintAlong (colorOf c) (now (links .entry)) (at .x) count (now (picture .entry))) ⌝ }
 {
     let half = count / 2;
-    let both = smaller(half, ahead);
+    let both = quick::smaller(half, ahead);
     let then = paint_both_and_look(links, picture, size, at, both, c);
     let y = paint_both(links, picture, size, then.x, then.y, half - both, c);
     let z = look(links, size, then.z, ahead - both);

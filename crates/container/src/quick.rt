@@ -96,7 +96,7 @@ fn all_filled(table: &[u32], outputs: &[u32], x: Lanes) -> Lanes
 }
 
 // The smaller of two counts.
-fn smaller(a: u32, b: u32) -> u32
+pub(crate) fn smaller(a: u32, b: u32) -> u32
     ensures { λ r. ⌜ (r ≤ a) × (r ≤ b) ⌝ }
 {
     if a < b {

@@ -30,6 +30,7 @@ pub mod Neighbours
 pub mod Turns
 pub mod Accepted
 pub mod Fits
+pub mod Zeros
 pub mod Walks
 pub mod Layouts
 pub mod Paint

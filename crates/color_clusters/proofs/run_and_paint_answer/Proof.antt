@@ -1,9 +1,9 @@
-use mathlib.Core.Path.{_≡_, refl, sym, ap, _∙_}
-use Prim.Native.Nat.{ℕ, _*_, _≤_}
+use mathlib.Core.Path.{_≡_, refl, sym, _∙_}
+use Prim.Native.Nat.{_*_, _≤_}
 use native.Mathlib.Omega.{arith}
 use borrow.Author.Needs.{needs}
 use borrow.Author.Tests.{eq-eqb, ne-eqb}
-use Rattle.rules.specs.Refusals.{limit, runAnswer, runAndPaintAnswer}
+use Rattle.rules.specs.Refusals.{limit, runAnswer}
 use Rattle.rules.proofs.Accepted.{run-accepted, run-and-paint-number}
 use Rattle.runner.specs.Types.{configOf}
 use Rattle.color_clusters.proofs.run_and_paint_answer.Statement.{statement}

@@ -1,4 +1,4 @@
-use mathlib.Core.Path.{_≡_, refl}
+use mathlib.Core.Path.{refl}
 use borrow.Author.Tests.{eq-eqb, ne-eqb}
 use Rattle.color_clusters.proofs.exports.action_of.Statement.{statement}
 use Rattle.color_clusters.proofs.exports.action_of.Tie as tie

@@ -1,7 +1,5 @@
-use mathlib.Core.Path.{_≡_}
 use borrow.Author.Needs.{needs}
 use mir.Syntax.{w32}
-use mir.Val.{toZ, ofZ}
 use mir.ValLaws.{toZ-ofZ}
 use Rattle.color_clusters.proofs.exports.color_clusters_run_and_paint.Statement.{statement}
 use Rattle.color_clusters.proofs.exports.color_clusters_run_and_paint.Tie as tie

@@ -1,7 +1,6 @@
-use mathlib.Core.Path.{_≡_, refl}
+use mathlib.Core.Path.{refl}
 use borrow.Author.Needs.{needs}
 use mir.Syntax.{w32}
-use mir.Val.{toZ, ofZ}
 use mir.ValLaws.{toZ-ofZ}
 use Rattle.color_clusters.proofs.exports.config.Statement.{statement}
 use Rattle.color_clusters.proofs.exports.config.Tie as tie

@@ -3,7 +3,7 @@ use Prim.Native.Nat.{_-_, _≤_}
 use native.Mathlib.Omega.{arith}
 use borrow.Author.Needs.{needs}
 use lib.ListN.{length, length-set}
-use Rattle.container.proofs.Zeros.{Zeros, zeros-further, zeros-all}
+use Rattle.rules.proofs.Zeros.{Zeros, zeros-further, zeros-all}
 use Rattle.container.proofs.paint.clear.Statement.{statement}
 use Rattle.container.proofs.paint.clear.Tie as tie
 

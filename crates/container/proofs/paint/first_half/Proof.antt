@@ -4,7 +4,6 @@ use native.Mathlib.Omega.{arith}
 use borrow.Author.Needs.{needs}
 use lib.ListN.{length, getD}
 use Rattle.rules.specs.Paint.{slotNumber}
-use Rattle.rules.proofs.Fits.{slot-fits, slot-offset, slot-in}
 use Rattle.container.proofs.paint.first_half.Statement.{statement}
 use Rattle.container.proofs.paint.first_half.Tie as tie
 

@@ -1,10 +1,9 @@
-use mathlib.Core.Path.{_≡_}
-use Prim.Native.Nat.{ℕ, _-_, _≤_, _<_}
+use Prim.Native.Nat.{ℕ, _-_, _<_}
 use native.Mathlib.Omega.{arith}
 use borrow.Author.Needs.{needs}
 use borrow.Author.Tests.{not-false}
 use lib.ListN.{getD}
-use Rattle.container.specs.Quick.{NumbersPass, ListPasses}
+use Rattle.container.specs.Quick.{NumbersPass}
 use Rattle.container.specs.Covered.{Whole}
 use Rattle.container.proofs.Pictures.{whole-passes}
 use Rattle.container.proofs.picture.painting.Statement.{statement}

@@ -1,4 +1,4 @@
--- A list that is written over with zeros from its front on.
+-- A list that is written over with zeros from its front on. Assumes nothing.
 use mathlib.Core.Path.{_≡_, sym, _∙_}
 use mathlib.Core.List.{List}
 use Prim.Native.Nat.{ℕ, _+_, _≤_, _<_}
