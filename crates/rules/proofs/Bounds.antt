@@ -77,6 +77,14 @@ wait-in a k s j r l = T-and (rooted s j) (ltb a (area (cluster s j)) || (eqb (ar
     go (inl m) false e = absurd (subst T e (lt→ltb a (area (cluster s j)) m))
     go (inr m) false e = T-and (eqb (area (cluster s j)) a) (leb k j) (subst (λ x. T (eqb (area (cluster s j)) x)) (m .0) (eqb-refl (area (cluster s j)))) (le→leb k j (m .1))
 
+-- what waits for the next pass waits while this one ends
+pub next-waits : (a n : ℕ) (s : State) (j : ℕ) → T (waiting (suc (suc a)) 0 s j) → T (waiting (suc a) n s j)
+next-waits a n s j x = wait-in (suc a) n s j (wait-out (suc (suc a)) 0 s j x .0) (go (wait-out (suc (suc a)) 0 s j x .1))
+  where
+    go : Wait (suc (suc a)) 0 s j → Wait (suc a) n s j
+    go (inl l) = inl (omega arith)
+    go (inr l) = inl (omega arith)
+
 pub record Bounded (cap n a k : ℕ) (s : State) : Type 0 where
   pub total : length (s .outputs) + countOf (waiting a k s) n + countOf (rooted s) n ≤ cap
   pub table : length (s .clusters) ≡ n
@@ -184,7 +192,7 @@ module _ {cap n : ℕ} where
 
     pass-bounded : (a : ℕ) (s : State) → Going image size (suc a) 0 s × Bounded cap n (suc a) 0 s → Going image size (suc (suc a)) 0 (pass o w h (suc a) s) × Bounded cap n (suc (suc a)) 0 (pass o w h (suc a) s)
     unfolding pass
-    pass-bounded a s R = (pass-going o w h a s (R .0), record { total = omega (arith, E .total, countOf-le (waiting (suc (suc a)) 0 u) (waiting (suc a) N u) on n); table = E .table })
+    pass-bounded a s R = (pass-going o w h a s (R .0), record { total = omega (arith, E .total, countOf-le (waiting (suc (suc a)) 0 u) (waiting (suc a) N u) (next-waits a N u) n); table = E .table })
       where
         N : ℕ
         N = length (s .clusters)
@@ -195,16 +203,14 @@ module _ {cap n : ℕ} where
         E : Bounded cap n (suc a) N u
         E = slots-bounded a s (R .0) (R .1) N (omega (arith, R .1 .table)) .1
 
-        on : (j : ℕ) → T (waiting (suc (suc a)) 0 u j) → T (waiting (suc a) N u j)
-        on j x = wait-in (suc a) N u j (wait-out (suc (suc a)) 0 u j x .0) (pick (wait-out (suc (suc a)) 0 u j x .1))
-          where
-            pick : Wait (suc (suc a)) 0 u j → Wait (suc a) N u j
-            pick (inl l) = inl (omega arith)
-            pick (inr l) = inl (omega arith)
-
     passes-bounded : (s : State) → Going image size 1 0 s → Bounded cap n 1 0 s → (m : ℕ) → Going image size (suc m) 0 (passes o w h m s) × Bounded cap n (suc m) 0 (passes o w h m s)
     unfolding passes
     passes-bounded s G B = times-keep (λ a v. Going image size (suc a) 0 v × Bounded cap n (suc a) 0 v) (λ a. pass o w h (suc a)) pass-bounded s (G, B)
+
+-- what is a root when stage 2 begins has pixels
+pub stood : (s : State) (j : ℕ) → Root (prepareStage2 s) j → T (standing s j)
+unfolding withResidue
+stood s j r = lt→ltb 0 (area (cluster s j)) (subst (λ c. 0 < area c) (settled s j) (r .0))
 
 -- before they are thinned, and so after it too, the outputs are at most 2 × w × h
 pub outputs-bound : (o : RunnerConfig) (w h : ℕ) (image : List ℕ) → length (stage2 o w h (stage1 o w h image) .outputs) ≤ 2 * (w * h)
@@ -220,15 +226,12 @@ outputs-bound o w h image = rw (stage2-passes o w h image) (omega (arith, passes
     G : Going image (w * h) 1 0 (prepareStage2 s)
     G = prepareStage2-going (w * h) s (early o w h image)
 
-    stood : (j : ℕ) → Root (prepareStage2 s) j → T (standing s j)
-    stood j r = lt→ltb 0 (area (cluster s j)) (subst (λ c. 0 < area c) (settled s j) (r .0))
-
     start : Bounded (2 * (w * h)) n 1 0 (prepareStage2 s)
     start = record {
       total = omega (
         arith,
-        countOf-le (rooted (prepareStage2 s)) (standing s) (λ j x. stood j (root-out (prepareStage2 s) j x)) n,
-        countOf-le (waiting 1 0 (prepareStage2 s)) (standing s) (λ j x. stood j (wait-out 1 0 (prepareStage2 s) j x .0)) n,
+        countOf-le (rooted (prepareStage2 s)) (standing s) (λ j x. stood s j (root-out (prepareStage2 s) j x)) n,
+        countOf-le (waiting 1 0 (prepareStage2 s)) (standing s) (λ j x. stood s j (wait-out 1 0 (prepareStage2 s) j x .0)) n,
         early o w h image .few n (omega arith),
         ap length (early o w h image .quiet),
       );

@@ -1,13 +1,12 @@
 -- Run, then painting, with nobody writing in between: no check refuses the painting.
 use mathlib.Core.Path.{_≡_, refl, sym, ap, _∙_}
-use mathlib.Core.Bool.{Bool, true, false}
-use mathlib.Core.List.{List, [], _∷_}
-use Prim.Native.Nat.{ℕ, suc, _+_, _*_, _≤_, _<_}
+use mathlib.Core.Bool.{false}
+use mathlib.Core.List.{List}
+use Prim.Native.Nat.{ℕ, _+_, _*_, _≤_, _<_}
 use native.Mathlib.Nat.{mul-le-mul-left}
 use native.Mathlib.Omega.{arith}
 use lib.Dec.{ltb, ltb→lt}
 use lib.ListN.{length, getD, length-append, length-drop}
-use Rattle.rules.specs.Base.{if_then_else_, keep}
 use Rattle.rules.specs.Color.{RunnerConfig}
 use Rattle.rules.specs.State.{cluster}
 use Rattle.rules.specs.Run.{run, stage1, stage2, dropEmpty}
@@ -16,7 +15,7 @@ use Rattle.rules.specs.Picture.{paint}
 use Rattle.rules.specs.Paint.{Painted}
 use Rattle.rules.specs.Refusals.{limit, tableLength, outputsLength, paintAnswer}
 use Rattle.rules.specs.Calls.{Buffers, Ran, over, leaves, accepted, runNumber, runCall, paintCall}
-use Rattle.rules.proofs.Facts.{is-false, eqb-yes, eqb-no}
+use Rattle.rules.proofs.Facts.{is-false, eqb-yes, eqb-no, keep-le}
 use Rattle.rules.proofs.Bounds.{outputs-bound}
 use Rattle.rules.proofs.Ranges.{run-ranged}
 use Rattle.rules.proofs.Moments.{run-width}
@@ -31,18 +30,10 @@ over-length new old l = simp (length-append, length-drop) (omega arith)
 not-above : (a b : ℕ) → b ≤ a → ltb a b ≡ false
 not-above a b l = is-false (ltb a b) (λ t. omega (arith, ltb→lt a b t))
 
-keep-length : (f : ℕ → Bool) (xs : List ℕ) → length (keep f xs) ≤ length xs
-keep-length f [] = omega arith
-keep-length f (x ∷ xs) = pick (f x) (keep-length f xs)
-  where
-    pick : (b : Bool) → length (keep f xs) ≤ length xs → length (if b then x ∷ keep f xs else keep f xs) ≤ suc (length xs)
-    pick true l = omega arith
-    pick false l = omega arith
-
 pub run-outputs : (o : RunnerConfig) (w h : ℕ) (image : List ℕ) → length (run o w h image .outputs) ≤ 2 * (w * h)
 unfolding run dropEmpty
 run-outputs o w h image =
-    omega (arith, keep-length (λ k. ltb 0 (cluster (stage2 o w h (stage1 o w h image)) k .sum .count)) (stage2 o w h (stage1 o w h image) .outputs), outputs-bound o w h image)
+    omega (arith, keep-le (λ k. ltb 0 (cluster (stage2 o w h (stage1 o w h image)) k .sum .count)) (stage2 o w h (stage1 o w h image) .outputs), outputs-bound o w h image)
 
 -- checks 2, 3, 5 and 6 of painting
 paint-passes : (w h links table outputs picture n m : ℕ) → 0 < w → 0 < h → w * h ≤ limit → w * h ≤ links → tableLength (w * h) ≤ table → outputsLength (w * h) ≤ outputs

@@ -10,7 +10,7 @@ use native.Mathlib.Omega.{arith}
 use lib.Dec.{T, ltb, eqb, eqb→eq, eqb-refl}
 use lib.ListN.{length, getD, set, length-set}
 use lib.Seq.{getD-set-same, getD-set-other}
-use Rattle.rules.specs.Base.{if_then_else_}
+use Rattle.rules.specs.Base.{if_then_else_, keep}
 use Rattle.rules.specs.Color.{ColorSum, zeroSum, one, _⊕_, pixel}
 use Rattle.rules.specs.State.{relabel, State, cluster, area}
 use Rattle.rules.specs.Claim.{bit, occurs, tally, countOf}
@@ -266,3 +266,26 @@ pub countOf-none : (f : ℕ → Bool) → ((j : ℕ) → T (f j) → ⊥) → (n
 unfolding countOf
 countOf-none f a zero = refl
 countOf-none f a (suc n) = omega (arith, ap bit (is-false (f n) (a n)), countOf-none f a n)
+
+-- what is kept of a list is no longer than it
+pub keep-le : (f : ℕ → Bool) (xs : List ℕ) → length (keep f xs) ≤ length xs
+keep-le f [] = omega arith
+keep-le f (x ∷ xs) = go (f x) (keep-le f xs)
+  where
+    go : (b : Bool) → length (keep f xs) ≤ length xs → length (if b then x ∷ keep f xs else keep f xs) ≤ suc (length xs)
+    go true l = omega arith
+    go false l = omega arith
+
+pub same-bool : (b c : Bool) → (T b → T c) → (T c → T b) → b ≡ c
+same-bool true c f g = sym (is-true c (f tt))
+same-bool false true f g = absurd (g tt)
+same-bool false false f g = refl
+
+pub countOf-bound : (f : ℕ → Bool) (n : ℕ) → countOf f n ≤ n
+unfolding countOf
+countOf-bound f zero = omega arith
+countOf-bound f (suc n) = pick (f n) (countOf-bound f n)
+  where
+    pick : (b : Bool) → countOf f n ≤ n → bit b + countOf f n ≤ suc n
+    pick true l = omega arith
+    pick false l = omega arith

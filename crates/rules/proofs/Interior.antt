@@ -19,18 +19,13 @@ use Rattle.rules.specs.Run.{stage1}
 use Rattle.rules.specs.Order.{anyOf, interior, start, turns}
 use Rattle.rules.specs.Ledger.{Held, enter, ledger}
 use Rattle.rules.specs.Claim.{bit, occurs, Stands, Holds}
-use Rattle.rules.proofs.Facts.{is-true, T-or, T-or-l, T-or-r, eqb-yes, eqb-no}
+use Rattle.rules.proofs.Facts.{is-true, T-or, T-or-l, T-or-r, eqb-yes, eqb-no, keep-le, same-bool}
 use Rattle.rules.proofs.Basic.{Basic, Moved, three, plain-f, plain-o, plain-up, deepened-o, deepened-up, deepened-to, merge-t, merge-moved, deepen-f, deepen-t, deepen-moved}
 use Rattle.rules.proofs.Visits.{Going, Near, visit-cases-why, isolated-cases, eqb-is, eqb-ne, stands, root, k≢t, k-slot, t-slot, target-root, target-stands}
 use Rattle.rules.proofs.Early.{settled}
 use Rattle.rules.proofs.Slots.{stage1-slots}
 use Rattle.rules.proofs.Outputs.{In}
 use Rattle.rules.proofs.Order.{Turning, turns-keep, start-turning}
-
-same-bool : (b c : Bool) → (T b → T c) → (T c → T b) → b ≡ c
-same-bool true c f g = sym (is-true c (f tt))
-same-bool false true f g = absurd (g tt)
-same-bool false false f g = refl
 
 -- ---- members
 
@@ -86,14 +81,6 @@ some-any f (x ∷ xs) p (inl e) t = T-or-l (f x) (anyOf f xs) (subst (λ m. T (f
 some-any f (x ∷ xs) p (inr i) t = T-or-r (f x) (anyOf f xs) (some-any f xs p i t)
 
 -- ---- what keep leaves out
-
-keep-le : (f : ℕ → Bool) (xs : List ℕ) → length (keep f xs) ≤ length xs
-keep-le f [] = omega arith
-keep-le f (x ∷ xs) = go (f x) (keep-le f xs)
-  where
-    go : (b : Bool) → length (keep f xs) ≤ length xs → length (if b then x ∷ keep f xs else keep f xs) ≤ suc (length xs)
-    go true l = omega arith
-    go false l = omega arith
 
 keep-short : (f : ℕ → Bool) (xs : List ℕ) → length (keep f xs) < length xs → (p : ℕ) × In p xs × (f p ≡ false)
 keep-short f [] l = absurd (omega arith)

@@ -16,7 +16,7 @@ use Rattle.rules.specs.Run.{stage1}
 use Rattle.rules.specs.Ledger.{ledger}
 use Rattle.rules.specs.Claim.{Stands}
 use Rattle.rules.specs.Order.{largest, start, turns}
-use Rattle.rules.proofs.Facts.{is-true, countOf-some, countOf-none}
+use Rattle.rules.proofs.Facts.{countOf-some, countOf-none, same-bool}
 use Rattle.rules.proofs.Basic.{Basic, Moved, three, merge-f, merge-moved, deepen-f, deepen-moved}
 use Rattle.rules.proofs.Visits.{Going, Near, visit-cases, isolated-cases, k≢t, k-slot, t-slot}
 use Rattle.rules.proofs.Early.{settled}
@@ -153,14 +153,9 @@ module _ {image : List ℕ} {size : ℕ} where
 
   -- no larger area is listed: no slot has a larger pixel count
   pub none-above : (o : RunnerConfig) (w h a k : ℕ) (s : State) → Going image size a k s → Listed s → Topped s → noneAbove a (s .listed) ≡ leb (largest (s .clusters)) a
-  none-above o w h a k s G L P = same (noneAbove a (s .listed)) (leb (largest (s .clusters)) a) (λ t. le→leb (largest (s .clusters)) a (largest-le (s .clusters) a (down t)))
+  none-above o w h a k s G L P = same-bool (noneAbove a (s .listed)) (leb (largest (s .clusters)) a) (λ t. le→leb (largest (s .clusters)) a (largest-le (s .clusters) a (down t)))
       (λ t. back (s .listed) (λ x i. let y = P .tops x i in omega (arith, y .1, largest-ge (s .clusters) (y .0), leb→le (largest (s .clusters)) a t)))
     where
-      same : (b c : Bool) → (T b → T c) → (T c → T b) → b ≡ c
-      same true c f g = sym (is-true c (f tt))
-      same false true f g = absurd (g tt)
-      same false false f g = refl
-
       fst : (b c : Bool) → T (b && c) → T b × T c
       fst true c t = (tt, t)
       fst false c t = absurd t

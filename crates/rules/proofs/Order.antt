@@ -25,7 +25,7 @@ use Rattle.rules.proofs.Visits.{Going, later, Near, visit-cases, isolat
 use Rattle.rules.proofs.Early.{Early, prepareStage2-going, settled}
 use Rattle.rules.proofs.Whole.{early, stage2-passes}
 use Rattle.rules.proofs.Outputs.{area-pos, area-le}
-use Rattle.rules.proofs.Bounds.{Bounded, Root, Wait, rooted, waiting, root-out, wait-out, wait-in, later-waits, here, not-then, fewer-roots, fewer-waits}
+use Rattle.rules.proofs.Bounds.{Bounded, Root, rooted, waiting, root-out, wait-out, later-waits, here, not-then, fewer-roots, fewer-waits, next-waits}
 
 -- ---- the pick
 
@@ -322,7 +322,7 @@ module _ (image : List ℕ) (size : ℕ) (o : RunnerConfig) (w h : ℕ) (q : Que
     keys = E .keys;
     there = E .there;
     queued = record { keyed = λ j. on j (area (cluster u j)) (getD (E .keys) j 0) (small j) (E .queued .keyed j); wide = E .queued .wide };
-    total = omega (arith, E .total, countOf-le (waiting (suc (suc a)) 0 u) (waiting (suc a) N u) waits n);
+    total = omega (arith, E .total, countOf-le (waiting (suc (suc a)) 0 u) (waiting (suc a) N u) (next-waits a N u) n);
     table = E .table;
   }
     where
@@ -353,13 +353,6 @@ module _ (image : List ℕ) (size : ℕ) (o : RunnerConfig) (w h : ℕ) (q : Que
           go (no z) = inl (inl (omega arith), y)
       on j x v f (inl (inr l, y)) = absurd (omega (arith, f (omega (arith, l .0)), l .1))
       on j x v f (inr (z, y)) = inr (side j z, y)
-
-      waits : (j : ℕ) → T (waiting (suc (suc a)) 0 u j) → T (waiting (suc a) N u j)
-      waits j x = wait-in (suc a) N u j (wait-out (suc (suc a)) 0 u j x .0) (go (wait-out (suc (suc a)) 0 u j x .1))
-        where
-          go : Wait (suc (suc a)) 0 u j → Wait (suc a) N u j
-          go (inl l) = inl (omega arith)
-          go (inr l) = inl (omega arith)
 
   passes-reached : (s : State) → Reached 1 0 s → (m : ℕ) → Reached (suc m) 0 (passes o w h m s)
   unfolding passes

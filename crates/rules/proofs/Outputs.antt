@@ -15,7 +15,7 @@ use Rattle.rules.specs.Stage2.{areasOf, neighbours, isolated, visit, pas
 use Rattle.rules.specs.Ledger.{Held, enter, ledger}
 use Rattle.rules.specs.Claim.{bit, occurs, countOf, Stands}
 use Rattle.rules.proofs.Owned.{owned}
-use Rattle.rules.proofs.Facts.{is-true, T-dec, T-bit, bit-T, eqb-yes, eqb-no, countOf-one, occurs-append}
+use Rattle.rules.proofs.Facts.{is-true, T-dec, T-bit, bit-T, eqb-yes, eqb-no, countOf-one, occurs-append, countOf-bound}
 use Rattle.rules.proofs.Forest.{Inside, inside-not}
 use Rattle.rules.proofs.Basic.{Basic, Moved, three, merge-moved, deepen-f, deepen-moved, lab-from, lab-other, plain-down, plain-o, deepened-o}
 use Rattle.rules.proofs.Visits.{Going, pass-going, All, insert-all, Near, visit-cases, visit-going, times-keep}
@@ -138,15 +138,6 @@ total-length [] (suc n) b = omega (arith, total-length [] n (λ p z. absurd (z r
 total-length (x ∷ xs) n b =
     total-cons x xs n
     ∙ omega (arith, countOf-one x n (b x (λ z. let y : bit (eqb x x) ≡ 1 = ap bit (eqb-yes x x refl) in omega arith)), total-length xs n (λ p z. b p (λ y. z (omega arith))))
-
-countOf-bound : (f : ℕ → Bool) (n : ℕ) → countOf f n ≤ n
-unfolding countOf
-countOf-bound f zero = omega arith
-countOf-bound f (suc n) = pick (f n) (countOf-bound f n)
-  where
-    pick : (b : Bool) → countOf f n ≤ n → bit b + countOf f n ≤ suc n
-    pick true l = omega arith
-    pick false l = omega arith
 
 countOf-all : (f : ℕ → Bool) (n : ℕ) → ((p : ℕ) → p < n → T (f p)) → countOf f n ≡ n
 unfolding countOf

@@ -3,10 +3,10 @@ use mathlib.Core.Path.{_≡_, refl, sym, ap, _∙_, subst}
 use mathlib.Core.Logic.{_≢_}
 use mathlib.Core.Bool.{Bool, true, false, _||_}
 use mathlib.Core.List.{List, [], _∷_, _++_}
-use Prim.Native.Nat.{ℕ, zero, suc, _+_, _*_, _≤_, _<_}
+use Prim.Native.Nat.{ℕ, suc, _+_, _*_, _≤_, _<_}
 use native.Mathlib.Decide.{ℕ-discrete}
 use native.Mathlib.Omega.{arith}
-use lib.Dec.{T, eqb, ltb, lt→ltb, ltb→lt, eqb→eq}
+use lib.Dec.{T, eqb, ltb, ltb→lt, eqb→eq}
 use lib.ListN.{length, getD, length-append, length-map}
 use Rattle.rules.specs.Base.{if_then_else_, keep}
 use Rattle.rules.specs.Color.{RunnerConfig, ColorSum, one, _⊕_, pixel, keyingOn}
@@ -23,7 +23,7 @@ use Rattle.rules.specs.Order.{start, turns}
 use Rattle.rules.specs.Ranges.{Fits, OnImage, Below, Ranged}
 use Rattle.rules.specs.Demand3.{Discarded, Agrees}
 use Rattle.rules.proofs.Owned.{owned}
-use Rattle.rules.proofs.Facts.{is-false, standing, bit-T, eqb-yes, countOf-le, tally-or, tally-one}
+use Rattle.rules.proofs.Facts.{is-false, standing, bit-T, eqb-yes, countOf-le, tally-or, tally-one, countOf-bound}
 use Rattle.rules.proofs.Basic.{Basic, Moved, three, plain-to, plain-up, merge-f, merge-t, merge-moved, deepen-f, deepen-t, deepen-moved}
 use Rattle.rules.proofs.Sound.{Sound}
 use Rattle.rules.proofs.Visits.{Going, Near, visit-cases, isolated-cases, stands, k≢t, k-slot, t-slot, target-stands, merge-going}
@@ -31,19 +31,10 @@ use Rattle.rules.proofs.Early.{Early, settled}
 use Rattle.rules.proofs.Whole.{early, early-at}
 use Rattle.rules.proofs.Outputs.{area-le}
 use Rattle.rules.proofs.Pictures.{tally-count, tally-bytes}
-use Rattle.rules.proofs.Bounds.{Bounded, Root, rooted, waiting, root-out, fewer-roots}
+use Rattle.rules.proofs.Bounds.{Bounded, rooted, waiting, root-out, fewer-roots, stood}
 use Rattle.rules.proofs.Moments.{Between, moments-keep, stage2-keep, each-map}
 use Rattle.rules.proofs.Order.{turns-keep, start-turning}
 use Rattle.rules.proofs.Slots.{stage1-slots, both-rects, no-rect}
-
-countOf-fits : (f : ℕ → Bool) (n : ℕ) → countOf f n ≤ n
-unfolding countOf
-countOf-fits f zero = omega arith
-countOf-fits f (suc n) = go (f n) (countOf-fits f n)
-  where
-    go : (b : Bool) → countOf f n ≤ n → bit b + countOf f n ≤ suc n
-    go true l = omega arith
-    go false l = omega arith
 
 -- ---- lists
 
@@ -88,7 +79,7 @@ module _ (image : List ℕ) (bytes : (i : ℕ) → getD image i 0 ≤ 255) where
   tally-fits f size =
       let t = tally-bytes image bytes f size in
       let c = tally-count image f size in
-      record { count = omega (arith, c, countOf-fits f size); r = omega (arith, c, t .0); g = omega (arith, c, t .1); b = omega (arith, c, t .2); a = omega (arith, c, t .3) }
+      record { count = omega (arith, c, countOf-bound f size); r = omega (arith, c, t .0); g = omega (arith, c, t .1); b = omega (arith, c, t .2); a = omega (arith, c, t .3) }
 
   -- every sum of a state that agrees with a ledger: in stage 1 too, after every join and every pixel (Early)
   pub sum-fits : {size : ℕ} {h : Held} {s : State} → Basic image size h s → (k : ℕ) → Fits size (cluster s k .sum)
@@ -263,7 +254,7 @@ module _ (image : List ℕ) (bytes : (i : ℕ) → getD image i 0 ≤ 255) where
         arith,
         ap (λ c. c .depth) (settled s k),
         stage1-slots o w h image k .depth,
-        countOf-le (rooted (prepareStage2 s)) (standing s) (λ j x. stood j (root-out (prepareStage2 s) j x)) n,
+        countOf-le (rooted (prepareStage2 s)) (standing s) (λ j x. stood s j (root-out (prepareStage2 s) j x)) n,
         E .few n (omega arith),
       );
       holes = λ k. omega (arith, ap (λ c. length (c .holes)) (settled s k), ap length (stage1-slots o w h image k .holes));
@@ -279,9 +270,6 @@ module _ (image : List ℕ) (bytes : (i : ℕ) → getD image i 0 ≤ 255) where
 
         E : Early image (w * h) (Discarded o image) (T (keyingOn o)) (w * h) s
         E = early o w h image
-
-        stood : (j : ℕ) → Root (prepareStage2 s) j → T (standing s j)
-        stood j r = lt→ltb 0 (area (cluster s j)) (subst (λ c. 0 < area c) (settled s j) (r .0))
 
     some-slots : 0 < length (stage1 o w h image .clusters)
     some-slots = omega (arith, early o w h image .room, early o w h image .some)
