@@ -17,6 +17,10 @@ whole at n h = le-leb (4 * at + 4) n (omega arith)
 ends : (at n : ℕ) → n / 4 ≤ at → leb (4 * at + 4) n ≡ false
 ends at n h = lt-leb (4 * at + 4) n (omega arith)
 
+-- and each of the four bytes
+inside : (at n j : ℕ) → at < n / 4 → j < 4 → 4 * at + j < n
+inside at n j h l = omega arith
+
 returns : tie.Need-returns
 unfolding pixelAt
 returns c = rw (le-ltb _ _ (c .if1 .taken))
@@ -38,4 +42,12 @@ returns-4 c =
 pub pixel-at-spec : {M : Type 1} → statement M
 pixel-at-spec =
     tie.close
-    (tie.spec returns returns-2 (λ c. row-fits (search needs) (search needs)) (λ c. place-fits (search needs) (search needs) (search needs)) returns-3 (search needs) (search needs) (search needs) (search needs) (search needs) (search needs) (search needs) (search needs) returns-4)
+    (tie.spec returns returns-2 (λ c. row-fits (search needs) (search needs)) (λ c. place-fits (search needs) (search needs) (search needs)) returns-3 (search needs)
+    (λ c. omega (arith, inside _ _ 0 (c .before .if3 .left) (omega arith)))
+    (search needs)
+    (λ c. inside _ _ 1 (c .before .before .if3 .left) (omega arith))
+    (search needs)
+    (λ c. inside _ _ 2 (c .before .before .before .if3 .left) (omega arith))
+    (search needs)
+    (λ c. inside _ _ 3 (c .before .before .before .before .if3 .left) (omega arith))
+    returns-4)
