@@ -30,6 +30,7 @@ clear-spec =
     (λ c. (omega arith, refl, λ j h. absurd (omega arith)))
     (search needs)
     (search needs)
+    (search needs)
     (λ c. simp length-set (omega (arith, c .loop-test .taken)))
     loop-again
     (λ c. c .before .loop .inv .1)
