@@ -18,7 +18,7 @@ use Rattle.color.specs.Colors.{sumOf}
 use Rattle.runner.specs.Slots.{Adds, store, headAt, headOf, savedHead, clearedSlot}
 use Rattle.runner.specs.Rep.{Table, Rep, slotsOf, linkAfter}
 use Rattle.runner.specs.Ops.{Open, CanAdd, Added, CanAppend, Combined}
-use Rattle.runner.specs.Stage1.{CanBegin, Placing}
+use Rattle.runner.specs.Stage1.{Placing}
 use Rattle.runner.proofs.Tables.{store-in, cleared-length, head-at, count-at}
 use Rattle.runner.proofs.Tails.{linkAfter-empty}
 use Rattle.runner.proofs.RepStage1.{rep-add, rep-begin, rep-combine, labels-long, links-long, list-reads, list-walk, tail-in}
@@ -69,7 +69,7 @@ module _ {o : RunnerConfig} {w h : ℕ} {image : List ℕ} {shift i x y l u : �
   pub in-table : (k : ℕ) → k < s .next → k < length (s .clusters)
   in-table k z = omega (arith, P .early .room)
 
-  next-in : 21 * s .next + 21 ≤ length B
+  pub next-in : 21 * s .next + 21 ≤ length B
   next-in = omega (arith, P .early .room, some-left, P .room, P .holding .rep .tabled .long)
 
   pub slot-in : (k : ℕ) → k < s .next → 21 * k + 21 ≤ length B
@@ -130,25 +130,21 @@ module _ {o : RunnerConfig} {w h : ℕ} {image : List ℕ} {shift i x y l u : �
     new : headAt (clearedSlot B (s .next)) (s .next) ≡ headOf newCluster
     new = cleared-head B (s .next) next-in
 
-    can-begin-next : CanBegin (s .next) i x y c L K B E
+    can-begin-next : CanAdd (s .next) i x y c L K (clearedSlot B (s .next)) E
     can-begin-next = record {
-      slot = next-in;
-      few = few;
-      first = record {
-        room = record {
-          slot = omega (arith, next-in, cleared-length B (s .next));
-          end = omega (arith, P .early .room, some-left, P .holding .rep .room);
-          count = omega (arith, ap (λ d. d .count) new);
-          tail = λ p. absurd (omega (arith, ap (λ d. d .count) new));
-        };
-        pixel = on-image;
-        small = pixel-small;
-        sum = one-more (subst (λ d. Fits (w * h) (sumOf (d .sum))) (sym new) (record { count = omega arith; r = omega arith; g = omega arith; b = omega arith; a = omega arith }));
+      room = record {
+        slot = omega (arith, next-in, cleared-length B (s .next));
+        end = omega (arith, P .early .room, some-left, P .holding .rep .room);
+        count = omega (arith, ap (λ d. d .count) new);
+        tail = λ p. absurd (omega (arith, ap (λ d. d .count) new));
       };
+      pixel = on-image;
+      small = pixel-small;
+      sum = one-more (subst (λ d. Fits (w * h) (sumOf (d .sum))) (sym new) (record { count = omega arith; r = omega arith; g = omega arith; b = omega arith; a = omega arith }));
     }
 
-    pub can-begin : CanBegin n i x y c L K B E
-    can-begin = subst (λ k. CanBegin k i x y c L K B E) (sym (P .holding .free)) can-begin-next
+    pub can-begin : CanAdd n i x y c L K (clearedSlot B n) E
+    can-begin = subst (λ k. CanAdd k i x y c L K (clearedSlot B k) E) (sym (P .holding .free)) can-begin-next
 
     rep-begun-next : {L′ K′ B′ E′ : List ℕ} → Added (s .next) i x y c L K (clearedSlot B (s .next)) E L′ K′ B′ E′ → Rep (w * h) (beginCluster i (pixel image i) (pixelRect x y) s) t₀ L′ K′ B′ E′
     rep-begun-next A = rep-is (A .labels)

@@ -21,36 +21,19 @@ use Rattle.rules.proofs.Facts.{eqb-yes}
 use Rattle.rules.proofs.Basic.{combine-moved}
 use Rattle.rules.proofs.Early.{Early, Earlier, label-next, combine-early, combine-empty, lower-early}
 use Rattle.rules.proofs.Whole.{early-at}
-use Rattle.runner.specs.declared.stage1.Into.the-variants.{Up, Left, Fresh}
+use Rattle.runner.specs.declared.stage1.Into.{Into}
+use Rattle.runner.specs.declared.stage1.Into.the-variants.{Nowhere, Zero, Up, Left, Fresh}
 use Rattle.runner.specs.Slots.{clearedSlot}
 use Rattle.runner.specs.Rep.{Rep}
-use Rattle.runner.specs.Ops.{Added, CanAppend, Combined}
-use Rattle.runner.specs.Stage1.{Holding, meets, intoOf, joined, Begun, Placing, Meeting, Taking}
+use Rattle.runner.specs.Ops.{CanAdd, Added, CanAppend, Combined}
+use Rattle.runner.specs.Stage1.{Holding, meets, aim, aimed, isNowhere, Opened, slotFor, tableFor, nextFor, countFor, Placing, Meeting, Sided, Taking}
 use Rattle.runner.proofs.RepStage1.{rep-fresh, rep-lower, labels-long}
 use Rattle.runner.proofs.Spots.{spot-in, left-earlier, up-earlier}
-use Rattle.runner.proofs.Stage1Laws.{rep-is, at-is, in-table, slot-in, few, count-of, rep-added, rep-begun, can-append, rep-combined}
+use Rattle.runner.proofs.Stage1Laws.{rep-is, at-is, in-table, next-in, slot-in, few, count-of, can-add, can-begin, rep-added, rep-begun, can-append, rep-combined}
 
--- which tests hold by which cluster a pixel joins
-into-up : (a b c : Bool) → intoOf a b c ≡ Up → b && a ≡ true
-into-up true true c e = refl
-into-up true false true e = cc
-into-up true false false e = cc
-into-up false b c e = cc
-
-into-left : (a b c : Bool) → intoOf a b c ≡ Left → (b && a ≡ false) × (c && a ≡ true)
-into-left true true c e = (cc, cc)
-into-left true false true e = (refl, refl)
-into-left true false false e = (cc, cc)
-into-left false b c e = (cc, cc)
-
-into-fresh : (a b c : Bool) → intoOf a b c ≡ Fresh → (b && a ≡ false) × (c && a ≡ false)
-into-fresh true true c e = (cc, cc)
-into-fresh true false true e = (cc, cc)
-into-fresh true false false e = (refl, refl)
-into-fresh false true true e = (refl, refl)
-into-fresh false true false e = (refl, refl)
-into-fresh false false true e = (refl, refl)
-into-fresh false false false e = (refl, refl)
+and-off : (b : Bool) → b && false ≡ false
+and-off true = refl
+and-off false = refl
 
 module _ {o : RunnerConfig} {w h : ℕ} {image : List ℕ} {shift i x y l u : ℕ} {s : State} {t₀ L K B E : List ℕ} {n m : ℕ} (P : Placing o w h image shift i x y l u s t₀ L K B E n m) where
   module _ {c : Color} (e : c ≡ pixel image i) where
@@ -62,12 +45,12 @@ module _ {o : RunnerConfig} {w h : ℕ} {image : List ℕ} {shift i x y l u : �
       slots = P .holding .slots ∙ sym (length-set (s .clusters) k (withPixel i (pixel image i) (pixelRect (i % w) (i / w)) (cluster s k)));
     }
 
-    held-begin : {L′ K′ B′ E′ : List ℕ} {n′ m′ : ℕ} → Begun n m i x y c L K B E L′ K′ B′ E′ n′ m′ → Holding (w * h) (beginCluster i (pixel image i) (pixelRect (i % w) (i / w)) s) t₀ L′ K′ B′ E′ n′ m′
+    held-begin : {L′ K′ B′ E′ : List ℕ} → Added n i x y c L K (clearedSlot B n) E L′ K′ B′ E′ → Holding (w * h) (beginCluster i (pixel image i) (pixelRect (i % w) (i / w)) s) t₀ L′ K′ B′ E′ (n + 1) (if ltb n m then m else n + 1)
     unfolding beginCluster
-    held-begin {L′} {K′} {B′} {E′} {n′} {m′} A = record {
-      rep = subst (λ r. Rep (w * h) (beginCluster i (pixel image i) r s) t₀ L′ K′ B′ E′) (at-is P) (rep-begun P e (A .first));
-      free = A .free ∙ ap (λ k. k + 1) (P .holding .free);
-      slots = A .slots ∙ ap₂ (λ a b. if ltb a b then b else a + 1) (P .holding .free) (P .holding .slots) ∙ pick (ltb (s .next) (length (s .clusters))) refl;
+    held-begin {L′} {K′} {B′} {E′} A = record {
+      rep = subst (λ r. Rep (w * h) (beginCluster i (pixel image i) r s) t₀ L′ K′ B′ E′) (at-is P) (rep-begun P e A);
+      free = ap (λ k. k + 1) (P .holding .free);
+      slots = ap₂ (λ a b. if ltb a b then b else a + 1) (P .holding .free) (P .holding .slots) ∙ pick (ltb (s .next) (length (s .clusters))) refl;
     }
       where
         z : Cluster
@@ -88,27 +71,55 @@ module _ {o : RunnerConfig} {w h : ℕ} {image : List ℕ} {shift i x y l u : �
   unfolding place
   place-is a b c d e₁ e₂ e₃ e₄ = rw (e₁, e₂, e₃, e₄)
 
-  -- steps 2 to 5, by the way taken
-  module _ {L′ K′ B′ E′ : List ℕ} {n′ m′ : ℕ} where
-    place-as : {z : State} → z ≡ place o w image i l u s → Holding (w * h) z t₀ L′ K′ B′ E′ n′ m′ → Holding (w * h) (place o w image i l u s) t₀ L′ K′ B′ E′ n′ m′
-    place-as e H = subst (λ z. Holding (w * h) z t₀ L′ K′ B′ E′ n′ m′) e H
+  -- a pixel that goes nowhere changes nothing
+  pub gone : isNowhere (aimed o w image i) ≡ true → Holding (w * h) (place o w image i l u s) t₀ L K B E n m
+  gone = go (isKey o image i) (isDiscard (o .keyingAction)) refl refl (sameAt o image (some i) (upLeft w i)) (sameAt o image (some i) (up w i)) (sameAt o image (some i) (left w i))
+    where
+      go : (a b : Bool) → isKey o image i ≡ a → isDiscard (o .keyingAction) ≡ b → (p q r : Bool) → isNowhere (aim a b p q r) ≡ true → Holding (w * h) (place o w image i l u s) t₀ L K B E n m
+      go true true e₁ e₂ p q r z = subst (λ v. Holding (w * h) v t₀ L K B E n m) (place-is true true _ _ e₁ e₂ refl refl) (P .holding)
+      go true false e₁ e₂ p q r z = absurd (true≢false (sym z))
+      go false b e₁ e₂ true true r z = absurd (true≢false (sym z))
+      go false b e₁ e₂ true false true z = absurd (true≢false (sym z))
+      go false b e₁ e₂ true false false z = absurd (true≢false (sym z))
+      go false b e₁ e₂ false q r z = absurd (true≢false (sym z))
 
-  pub place-gone : isKey o image i ≡ true → isDiscard (o .keyingAction) ≡ true → Holding (w * h) (place o w image i l u s) t₀ L K B E n m
-  place-gone e d = place-as (place-is true true _ _ e d refl refl) (P .holding)
+  -- slot next is there
+  pub next-slot : (21 * n + 21 ≤ length B) × (n < 2000000)
+  next-slot = (omega (arith, P .holding .free, next-in P), omega (arith, P .holding .free, few P))
 
-  module _ {c : Color} (e : c ≡ pixel image i) {L′ K′ B′ E′ : List ℕ} where
-    pub place-key : isKey o image i ≡ true → isDiscard (o .keyingAction) ≡ false → Added 0 i x y c L K B E L′ K′ B′ E′ → Holding (w * h) (place o w image i l u s) t₀ L′ K′ B′ E′ n m
-    place-key k d A = place-as (place-is true false _ _ k d refl refl) (held-add e 0 (P .early .some) A)
+  module _ {c : Color} (e : c ≡ pixel image i) {B″ : List ℕ} {k n′ m′ : ℕ} {to : Into} where
+    -- the slot can take the pixel
+    pub can-take : Opened to l u n m B B″ k n′ m′ → CanAdd k i x y c L K B″ E
+    can-take O = subst (λ j. CanAdd j i x y c L K B″ E) (sym (O .slot)) (subst (λ b. CanAdd (slotFor to l u n) i x y c L K b E) (sym (O .table)) (go to))
+      where
+        go : (to : Into) → CanAdd (slotFor to l u n) i x y c L K (tableFor to n B) E
+        go Nowhere = can-add P e 0 (P .early .some)
+        go Zero = can-add P e 0 (P .early .some)
+        go Up = can-add P e u (P .to-up)
+        go Left = can-add P e l (P .to-left)
+        go Fresh = can-begin P e
 
-    pub place-up : isKey o image i ≡ false → joined o w image i ≡ Up → Added u i x y c L K B E L′ K′ B′ E′ → Holding (w * h) (place o w image i l u s) t₀ L′ K′ B′ E′ n m
-    place-up k j A = place-as (place-is false _ true _ k refl (into-up (sameAt o image (some i) (upLeft w i)) (sameAt o image (some i) (up w i)) (sameAt o image (some i) (left w i)) j) refl) (held-add e u (P .to-up) A)
+    -- and then holds it, as the steps say
+    pub takes : {L′ K′ B′ E′ : List ℕ} → to ≡ aimed o w image i → isNowhere to ≡ false → Opened to l u n m B B″ k n′ m′ → Added k i x y c L K B″ E L′ K′ B′ E′ → Holding (w * h) (place o w image i l u s) t₀ L′ K′ B′ E′ n′ m′
+    takes {L′} {K′} {B′} {E′} f z O A =
+        go (isKey o image i) (isDiscard (o .keyingAction)) (sameAt o image (some i) (upLeft w i)) (sameAt o image (some i) (up w i)) (sameAt o image (some i) (left w i)) refl refl refl refl refl (sym (ap isNowhere f) ∙ z)
+        (O .slot ∙ ap (λ v. slotFor v l u n) f) (O .table ∙ ap (λ v. tableFor v n B) f) (O .free ∙ ap (λ v. nextFor v n) f) (O .slots ∙ ap (λ v. countFor v n m) f)
+      where
+        held : {st : State} {a b : ℕ} → st ≡ place o w image i l u s → n′ ≡ a → m′ ≡ b → Holding (w * h) st t₀ L′ K′ B′ E′ a b → Holding (w * h) (place o w image i l u s) t₀ L′ K′ B′ E′ n′ m′
+        held {st} p q r H = record { rep = subst (λ v. Rep (w * h) v t₀ L′ K′ B′ E′) p (H .rep); free = q ∙ H .free ∙ ap (λ v. v .next) p; slots = r ∙ H .slots ∙ ap (λ v. length (v .clusters)) p }
 
-    pub place-left : isKey o image i ≡ false → joined o w image i ≡ Left → Added l i x y c L K B E L′ K′ B′ E′ → Holding (w * h) (place o w image i l u s) t₀ L′ K′ B′ E′ n m
-    place-left k j A = let f = into-left (sameAt o image (some i) (upLeft w i)) (sameAt o image (some i) (up w i)) (sameAt o image (some i) (left w i)) j in place-as (place-is false _ false true k refl (f .0) (f .1)) (held-add e l (P .to-left) A)
+        added : {j : ℕ} {b : List ℕ} → k ≡ j → B″ ≡ b → Added j i x y c L K b E L′ K′ B′ E′
+        added {j} {b} p q = subst (λ v. Added v i x y c L K b E L′ K′ B′ E′) p (subst (λ v. Added k i x y c L K v E L′ K′ B′ E′) q A)
 
-    pub place-fresh : {n′ m′ : ℕ} → isKey o image i ≡ false → joined o w image i ≡ Fresh → Begun n m i x y c L K B E L′ K′ B′ E′ n′ m′
-        → Holding (w * h) (place o w image i l u s) t₀ L′ K′ B′ E′ n′ m′
-    place-fresh k j A = let f = into-fresh (sameAt o image (some i) (upLeft w i)) (sameAt o image (some i) (up w i)) (sameAt o image (some i) (left w i)) j in place-as (place-is false _ false false k refl (f .0) (f .1)) (held-begin e A)
+        go : (a b p q r : Bool) → isKey o image i ≡ a → isDiscard (o .keyingAction) ≡ b → sameAt o image (some i) (upLeft w i) ≡ p → sameAt o image (some i) (up w i) ≡ q → sameAt o image (some i) (left w i) ≡ r
+            → isNowhere (aim a b p q r) ≡ false → k ≡ slotFor (aim a b p q r) l u n → B″ ≡ tableFor (aim a b p q r) n B → n′ ≡ nextFor (aim a b p q r) n → m′ ≡ countFor (aim a b p q r) n m
+            → Holding (w * h) (place o w image i l u s) t₀ L′ K′ B′ E′ n′ m′
+        go true true p q r e₁ e₂ e₃ e₄ e₅ z s₁ s₂ s₃ s₄ = absurd (true≢false z)
+        go true false p q r e₁ e₂ e₃ e₄ e₅ z s₁ s₂ s₃ s₄ = held (place-is true false _ _ e₁ e₂ refl refl) s₃ s₄ (held-add e 0 (P .early .some) (added s₁ s₂))
+        go false b true true r e₁ e₂ e₃ e₄ e₅ z s₁ s₂ s₃ s₄ = held (place-is false b true _ e₁ e₂ (ap₂ _&&_ e₄ e₃) refl) s₃ s₄ (held-add e u (P .to-up) (added s₁ s₂))
+        go false b true false true e₁ e₂ e₃ e₄ e₅ z s₁ s₂ s₃ s₄ = held (place-is false b false true e₁ e₂ (ap₂ _&&_ e₄ e₃) (ap₂ _&&_ e₅ e₃)) s₃ s₄ (held-add e l (P .to-left) (added s₁ s₂))
+        go false b true false false e₁ e₂ e₃ e₄ e₅ z s₁ s₂ s₃ s₄ = held (place-is false b false false e₁ e₂ (ap₂ _&&_ e₄ e₃) (ap₂ _&&_ e₅ e₃)) s₃ s₄ (held-begin e (added s₁ s₂))
+        go false b false q r e₁ e₂ e₃ e₄ e₅ z s₁ s₂ s₃ s₄ = held (place-is false b false false e₁ e₂ (ap₂ _&&_ e₄ e₃ ∙ and-off q) (ap₂ _&&_ e₅ e₃ ∙ and-off r)) s₃ s₄ (held-begin e (added s₁ s₂))
 
 -- ---- two clusters meet
 
@@ -144,7 +155,7 @@ module _ {o : RunnerConfig} {w h : ℕ} {image : List ℕ} {shift i x y l u : �
 
   module _ {L′ K′ B′ E′ : List ℕ} where
     -- left went into up
-    pub met-up : {n′ m′ : ℕ} → Combined l u L K B E L′ K′ B′ E′ → n′ ≡ (if eqb (l + 1) n && eqb n m then n - 1 else n) → m′ ≡ m
+    met-up : {n′ m′ : ℕ} → Combined l u L K B E L′ K′ B′ E′ → n′ ≡ (if eqb (l + 1) n && eqb n m then n - 1 else n) → m′ ≡ m
         → Placing o w h image shift i x y u u (lowerNext l (combine l u s)) t₀ L′ K′ B′ E′ n′ m′
     unfolding lowerNext combine
     met-up C a b = record {
@@ -167,7 +178,7 @@ module _ {o : RunnerConfig} {w h : ℕ} {image : List ℕ} {shift i x y l u : �
             (combine-empty i l u s (M .placing .early) (M .differ) hl hu (M .up-keyed))
 
     -- up went into left
-    pub met-left : Combined u l L K B E L′ K′ B′ E′ → Placing o w h image shift i x y l l (combine u l s) t₀ L′ K′ B′ E′ n m
+    met-left : Combined u l L K B E L′ K′ B′ E′ → Placing o w h image shift i x y l l (combine u l s) t₀ L′ K′ B′ E′ n m
     unfolding combine
     met-left C = record {
       given = M .placing .given;
@@ -180,16 +191,22 @@ module _ {o : RunnerConfig} {w h : ℕ} {image : List ℕ} {shift i x y l u : �
     }
 
     -- which of the two, by the counts that the code reads
-    module _ {n′ m′ : ℕ} where
-      pub held-up : getD B (21 * l + 1) 0 ≤ getD B (21 * u + 1) 0 → Holding (w * h) (place o w image i u u (lowerNext l (combine l u s))) t₀ L′ K′ B′ E′ n′ m′
-          → Holding (w * h) (combineThenPlace o w image i l u s) t₀ L′ K′ B′ E′ n′ m′
-      unfolding combineThenPlace
-      held-up z H = rw (le-leb (area (cluster s l)) (area (cluster s u)) (omega (arith, count-of (M .placing) l hl, count-of (M .placing) u hu))) H
+    pub sided-up : {n′ m′ : ℕ} → getD B (21 * l + 1) 0 ≤ getD B (21 * u + 1) 0 → Combined l u L K B E L′ K′ B′ E′ → n′ ≡ (if eqb (l + 1) n && eqb n m then n - 1 else n) → m′ ≡ m
+        → Sided o w h image shift i x y (combineThenPlace o w image i l u s) t₀ L′ K′ B′ E′ u u n′ m′
+    unfolding combineThenPlace
+    sided-up z C a b = record {
+      state = lowerNext l (combine l u s);
+      placing = met-up C a b;
+      placed = rw (le-leb (area (cluster s l)) (area (cluster s u)) (omega (arith, count-of (M .placing) l hl, count-of (M .placing) u hu)));
+    }
 
-      pub held-left : getD B (21 * u + 1) 0 < getD B (21 * l + 1) 0 → Holding (w * h) (place o w image i l l (combine u l s)) t₀ L′ K′ B′ E′ n′ m′
-          → Holding (w * h) (combineThenPlace o w image i l u s) t₀ L′ K′ B′ E′ n′ m′
-      unfolding combineThenPlace
-      held-left z H = rw (lt-leb (area (cluster s l)) (area (cluster s u)) (omega (arith, count-of (M .placing) l hl, count-of (M .placing) u hu))) H
+    pub sided-left : getD B (21 * u + 1) 0 < getD B (21 * l + 1) 0 → Combined u l L K B E L′ K′ B′ E′ → Sided o w h image shift i x y (combineThenPlace o w image i l u s) t₀ L′ K′ B′ E′ l l n m
+    unfolding combineThenPlace
+    sided-left z C = record {
+      state = combine u l s;
+      placing = met-left C;
+      placed = rw (lt-leb (area (cluster s l)) (area (cluster s u)) (omega (arith, count-of (M .placing) l hl, count-of (M .placing) u hu)));
+    }
 
 -- ---- a pixel is taken
 
@@ -232,7 +249,7 @@ module _ {o : RunnerConfig} {w h : ℕ} {image : List ℕ} {shift i x y : ℕ} {
   pixel-in = omega (arith, spot-in (Q .spot), labels-long early (Q .holding .rep))
 
   module _ {l u : ℕ} (to-left : l ≡ labelAt (taken o w image (w * h) i) (left w i)) (to-up : u ≡ labelAt (taken o w image (w * h) i) (up w i)) where
-    pub take-placing : Placing o w h image shift i x y l u (taken o w image (w * h) i) t₀ L K B E n m
+    take-placing : Placing o w h image shift i x y l u (taken o w image (w * h) i) t₀ L K B E n m
     take-placing = record {
       given = Q .given;
       spot = Q .spot;
@@ -261,14 +278,19 @@ module _ {o : RunnerConfig} {w h : ℕ} {image : List ℕ} {shift i x y : ℕ} {
         ap₂ (λ p q. if b then combineThenPlace o w image i p q s else place o w image i p q s) to-left to-up
         ∙ take-is o w image i s b (sym (ap₂ (meets o w image i) to-left to-up) ∙ e) ∙ next-is o w image (w * h) i
 
-    module _ {L′ K′ B′ E′ : List ℕ} {n′ m′ : ℕ} where
-      pub take-met : meets o w image i l u ≡ true → Holding (w * h) (combineThenPlace o w image i l u (taken o w image (w * h) i)) t₀ L′ K′ B′ E′ n′ m′
-          → Holding (w * h) (taken o w image (w * h) (suc i)) t₀ L′ K′ B′ E′ n′ m′
-      take-met e H = subst (λ z. Holding (w * h) z t₀ L′ K′ B′ E′ n′ m′) (after true e) H
+    -- the sides where they do not meet, and where they were combined
+    pub sided-apart : meets o w image i l u ≡ false → Sided o w h image shift i x y (taken o w image (w * h) (suc i)) t₀ L K B E l u n m
+    sided-apart e = record { state = taken o w image (w * h) i; placing = take-placing; placed = after false e }
 
-      pub take-placed : meets o w image i l u ≡ false → Holding (w * h) (place o w image i l u (taken o w image (w * h) i)) t₀ L′ K′ B′ E′ n′ m′
-          → Holding (w * h) (taken o w image (w * h) (suc i)) t₀ L′ K′ B′ E′ n′ m′
-      take-placed e H = subst (λ z. Holding (w * h) z t₀ L′ K′ B′ E′ n′ m′) (after false e) H
+    pub sided-met : {L′ K′ B′ E′ : List ℕ} {l′ u′ n′ m′ : ℕ} → meets o w image i l u ≡ true
+        → Sided o w h image shift i x y (combineThenPlace o w image i l u (taken o w image (w * h) i)) t₀ L′ K′ B′ E′ l′ u′ n′ m′
+        → Sided o w h image shift i x y (taken o w image (w * h) (suc i)) t₀ L′ K′ B′ E′ l′ u′ n′ m′
+    sided-met e S = record { state = S .state; placing = S .placing; placed = S .placed ∙ after true e }
+
+-- a pixel that is placed is taken
+pub taken-so : {o : RunnerConfig} {w h : ℕ} {image : List ℕ} {shift i x y l u : ℕ} {z : State} {t₀ L K B E L′ K′ B′ E′ : List ℕ} {n m n′ m′ : ℕ} (S : Sided o w h image shift i x y z t₀ L K B E l u n m)
+    → Holding (w * h) (place o w image i l u (S .state)) t₀ L′ K′ B′ E′ n′ m′ → Holding (w * h) z t₀ L′ K′ B′ E′ n′ m′
+taken-so {w = w} {h = h} {t₀ = t₀} {L′ = L′} {K′ = K′} {B′ = B′} {E′ = E′} {n′ = n′} {m′ = m′} S H = subst (λ v. Holding (w * h) v t₀ L′ K′ B′ E′ n′ m′) (S .placed) H
 
 -- ---- all pixels
 

@@ -9,17 +9,16 @@ use lib.Dec.{T, ltb, eqb}
 use lib.IntN.{pos}
 use lib.ListN.{length, getD, replicate}
 use Rattle.rules.specs.Base.{if_then_else_}
-use Rattle.rules.specs.Color.{Color, RunnerConfig, keyingOn}
+use Rattle.rules.specs.Color.{RunnerConfig, keyingOn, isDiscard}
 use Rattle.rules.specs.Grid.{up, left, upLeft}
 use Rattle.rules.specs.State.{State}
-use Rattle.rules.specs.Stage1.{sameAt, taken}
+use Rattle.rules.specs.Stage1.{sameAt, isKey, place, taken}
 use Rattle.rules.specs.Demand3.{Discarded}
 use Rattle.rules.proofs.Early.{Early}
 use Rattle.runner.specs.declared.stage1.Into.{Into}
-use Rattle.runner.specs.declared.stage1.Into.the-variants.{Up, Left, Fresh}
+use Rattle.runner.specs.declared.stage1.Into.the-variants.{Nowhere, Zero, Up, Left, Fresh}
 use Rattle.runner.specs.Slots.{clearedSlot}
 use Rattle.runner.specs.Rep.{Rep}
-use Rattle.runner.specs.Ops.{CanAdd, Added}
 
 -- an image of w columns and h rows, with the shift of the settings as a number
 pub record Given (o : RunnerConfig) (w h : ℕ) (image : List ℕ) (shift : ℕ) : Type 0 where
@@ -56,16 +55,57 @@ intoOf false u l = Fresh
 abbrev pub joined : RunnerConfig → ℕ → List ℕ → ℕ → Into
 joined o w image i = intoOf (sameAt o image (some i) (upLeft w i)) (sameAt o image (some i) (up w i)) (sameAt o image (some i) (left w i))
 
--- slot next can be cleared and take pixel i
-pub record CanBegin (next i x y : ℕ) (c : Color) (L K B E : List ℕ) : Type 0 where
-  pub slot : 21 * next + 21 ≤ length B
-  pub few : next < 2000000
-  pub first : CanAdd next i x y c L K (clearedSlot B next) E
+-- where pixel i goes, by whether it is a key pixel, key pixels are discarded, and the three tests
+abbrev pub aim : Bool → Bool → Bool → Bool → Bool → Into
+aim true true a u l = Nowhere
+aim true false a u l = Zero
+aim false d a u l = intoOf a u l
 
-pub record Begun (next count i x y : ℕ) (c : Color) (L K B E L′ K′ B′ E′ : List ℕ) (next′ count′ : ℕ) : Type 0 where
-  pub first : Added next i x y c L K (clearedSlot B next) E L′ K′ B′ E′
-  pub free : next′ ≡ next + 1
-  pub slots : count′ ≡ (if ltb next count then count else next + 1)
+abbrev pub aimed : RunnerConfig → ℕ → List ℕ → ℕ → Into
+aimed o w image i = aim (isKey o image i) (isDiscard (o .keyingAction)) (sameAt o image (some i) (upLeft w i)) (sameAt o image (some i) (up w i)) (sameAt o image (some i) (left w i))
+
+abbrev pub isNowhere : Into → Bool
+isNowhere Nowhere = true
+isNowhere Zero = false
+isNowhere Up = false
+isNowhere Left = false
+isNowhere Fresh = false
+
+-- the slot that it goes to, with l and u for the labels of left and up and n for next
+abbrev pub slotFor : Into → ℕ → ℕ → ℕ → ℕ
+slotFor Nowhere l u n = 0
+slotFor Zero l u n = 0
+slotFor Up l u n = u
+slotFor Left l u n = l
+slotFor Fresh l u n = n
+
+-- the table, next and count then: a fresh slot is cleared
+abbrev pub tableFor : Into → ℕ → List ℕ → List ℕ
+tableFor Nowhere n B = B
+tableFor Zero n B = B
+tableFor Up n B = B
+tableFor Left n B = B
+tableFor Fresh n B = clearedSlot B n
+
+abbrev pub nextFor : Into → ℕ → ℕ
+nextFor Nowhere n = n
+nextFor Zero n = n
+nextFor Up n = n
+nextFor Left n = n
+nextFor Fresh n = n + 1
+
+abbrev pub countFor : Into → ℕ → ℕ → ℕ
+countFor Nowhere n m = m
+countFor Zero n m = m
+countFor Up n m = m
+countFor Left n m = m
+countFor Fresh n m = if ltb n m then m else n + 1
+
+pub record Opened (to : Into) (l u n m : ℕ) (B B′ : List ℕ) (k n′ m′ : ℕ) : Type 0 where
+  pub slot : k ≡ slotFor to l u n
+  pub table : B′ ≡ tableFor to n B
+  pub free : n′ ≡ nextFor to n
+  pub slots : m′ ≡ countFor to n m
 
 -- pixel i is to be placed, with l and u for the labels of left and up
 pub record Placing (o : RunnerConfig) (w h : ℕ) (image : List ℕ) (shift i x y l u : ℕ) (s : State) (t₀ L K B E : List ℕ) (next count : ℕ) : Type 0 where
@@ -83,6 +123,12 @@ pub record Meeting (o : RunnerConfig) (w h : ℕ) (image : List ℕ) (shift i x 
   pub differ : l ≢ u
   pub left-keyed : l ≡ 0 → T (keyingOn o)
   pub up-keyed : u ≡ 0 → T (keyingOn o)
+
+-- pixel i is to be placed, with l and u for both labels, which gives the state `after`
+pub record Sided (o : RunnerConfig) (w h : ℕ) (image : List ℕ) (shift i x y : ℕ) (after : State) (t₀ L K B E : List ℕ) (l u next count : ℕ) : Type 0 where
+  pub state : State
+  pub placing : Placing o w h image shift i x y l u state t₀ L K B E next count
+  pub placed : place o w image i l u state ≡ after
 
 -- i pixels are taken, and pixel i is next
 pub record Taking (o : RunnerConfig) (w h : ℕ) (image : List ℕ) (shift i x y : ℕ) (t₀ L K B E : List ℕ) (next count : ℕ) : Type 0 where

@@ -9,12 +9,13 @@ ghost use lib.IntN.{pos};
 ghost use lib.ListN.{length};
 ghost use Rattle.rules.specs.Base.{if_then_else_};
 ghost use Rattle.rules.specs.Grid as grid;
+ghost use Rattle.rules.specs.Color.{RunnerConfig as Config};
 ghost use Rattle.rules.specs.State.{State};
 ghost use Rattle.rules.specs.Stage1 as rules;
 ghost use Rattle.rules.specs.Run as run;
 ghost use Rattle.color.specs.Colors.{colorOf, optionOf};
 ghost use Rattle.runner.specs.Types.{configOf};
-ghost use Rattle.runner.specs.Stage1.{Given, Spot, Holding, meets, joined, CanBegin, Begun, Placing, Meeting, Taking, Blank};
+ghost use Rattle.runner.specs.Stage1.{Given, Spot, Holding, meets, joined, aimed, isNowhere, Opened, Placing, Meeting, Sided, Taking, Blank};
 use super::builder;
 use super::keying;
 use super::slot;
@@ -27,11 +28,28 @@ pub(crate) struct Slots {
     pub(crate) count: u32,
 }
 
-// Which cluster a pixel joins: up's, left's, or a fresh one.
+// The labels of left and up as steps 2 to 5 read them, and then next and count.
+struct Sides {
+    left: u32,
+    up: u32,
+    next: u32,
+    count: u32,
+}
+
+// Where a pixel goes: nowhere, or into cluster 0, up's, left's, or a fresh one.
 enum Into {
+    Nowhere,
+    Zero,
     Up,
     Left,
     Fresh,
+}
+
+// The slot that it goes to, and then next and count.
+struct Target {
+    slot: u32,
+    next: u32,
+    count: u32,
 }
 
 // The pixel to the left of column x, row y; none at the border.
@@ -116,6 +134,32 @@ fn joins(image: &[u8], o: RunnerConfig, shift: u32, w: u32, h: u32, x: u32, y: u
     Into::Fresh
 }
 
+// Steps 2 to 5: where pixel i goes.
+fn aims(image: &[u8], o: RunnerConfig, shift: u32, w: u32, h: u32, i: u32, x: u32, y: u32) -> Into
+    requires { ⌜ 4 * i + 4 ≤ length (now image) ⌝ }
+    ensures { λ r. ⌜ (Spot w h i x y → Given (configOf o) w h (now (image .entry)) shift → r ≡ aimed (configOf o) w (now (image .entry)) i) ⌝ }
+{
+    if keying::is_key(image, o, i) {
+        if keying::is_discard(o) {
+            return Into::Nowhere;
+        }
+        return Into::Zero;
+    }
+    joins(image, o, shift, w, h, x, y)
+}
+
+fn is_nowhere(to: Into) -> bool
+    ensures { λ r. ⌜ r ≡ isNowhere to ⌝ }
+{
+    match to {
+        Into::Nowhere => true,
+        Into::Zero => false,
+        Into::Up => false,
+        Into::Left => false,
+        Into::Fresh => false,
+    }
+}
+
 // Slot next is taken: next rises by one, and so does the number of slots where the slot is new.
 fn slot_taken(s: Slots) -> Slots
     requires { ⌜ s .next < 2000000 ⌝ }
@@ -134,28 +178,47 @@ fn slot_taken(s: Slots) -> Slots
     }
 }
 
-// A fresh cluster takes slot next.
-fn begin_cluster(
-    labels: &mut [u32],
-    links: &mut [u32],
-    table: &mut [u32],
-    ends: &mut [u32],
-    s: Slots,
-    i: u32,
-    x: u32,
-    y: u32,
-    c: color::Color,
-) -> Slots
-    requires { ⌜ CanBegin (s .next) i x y (colorOf c) (now labels) (now links) (now table) (now ends) ⌝ }
-    ensures { λ r. ⌜ Begun (s .next) (s .count) i x y (colorOf c) (now (labels .entry)) (now (links .entry)) (now (table .entry)) (now (ends .entry)) (now (labels .exit)) (now (links .exit)) (now (table .exit)) (now (ends .exit)) (r .next) (r .count) ⌝ }
+// The slot for a pixel; a fresh one is cleared.
+fn slot_for(table: &mut [u32], to: Into, v: Sides) -> Target
+    requires { ⌜ (21 * v .next + 21 ≤ length (now table)) × (v .next < 2000000) ⌝ }
+    ensures { λ r. ⌜ Opened to (v .left) (v .up) (v .next) (v .count) (now (table .entry)) (now (table .exit)) (r .slot) (r .next) (r .count) ⌝ }
 {
-    let k = s.next;
-    slot::clear_slot(table, k);
-    builder::add(labels, links, table, ends, k, i, x, y, c);
-    slot_taken(s)
+    let next = v.next;
+    let count = v.count;
+    match to {
+        Into::Nowhere => Target {
+            slot: 0,
+            next,
+            count,
+        },
+        Into::Zero => Target {
+            slot: 0,
+            next,
+            count,
+        },
+        Into::Up => Target {
+            slot: v.up,
+            next,
+            count,
+        },
+        Into::Left => Target {
+            slot: v.left,
+            next,
+            count,
+        },
+        Into::Fresh => {
+            slot::clear_slot(table, next);
+            let s = slot_taken(Slots { next, count });
+            Target {
+                slot: next,
+                next: s.next,
+                count: s.count,
+            }
+        }
+    }
 }
 
-// Steps 2 to 5, with l and u for the labels of left and up.
+// Steps 2 to 5.
 fn place(
     image: &[u8],
     labels: &mut [u32],
@@ -166,35 +229,27 @@ fn place(
     shift: u32,
     w: u32,
     h: u32,
-    l: u32,
-    u: u32,
-    s: Slots,
+    v: Sides,
     i: u32,
     x: u32,
     y: u32,
 ) -> Slots
-    requires { ⌜ ((st : State) × (t₀ : List ℕ) × Placing (configOf o) w h (now image) shift i x y l u st t₀ (now labels) (now links) (now table) (now ends) (s .next) (s .count)) ⌝ }
-    ensures { λ r. ⌜ ((st : State) (t₀ : List ℕ) → Placing (configOf o) w h (now (image .entry)) shift i x y l u st t₀ (now (labels .entry)) (now (links .entry)) (now (table .entry)) (now (ends .entry)) (s .next) (s .count) → Holding (w * h) (rules.place (configOf o) w (now (image .entry)) i l u st) t₀ (now (labels .exit)) (now (links .exit)) (now (table .exit)) (now (ends .exit)) (r .next) (r .count)) ⌝ }
+    requires { ⌜ ((st : State) × (t₀ : List ℕ) × Placing (configOf o) w h (now image) shift i x y (v .left) (v .up) st t₀ (now labels) (now links) (now table) (now ends) (v .next) (v .count)) ⌝ }
+    ensures { λ r. ⌜ ((st : State) (t₀ : List ℕ) → Placing (configOf o) w h (now (image .entry)) shift i x y (v .left) (v .up) st t₀ (now (labels .entry)) (now (links .entry)) (now (table .entry)) (now (ends .entry)) (v .next) (v .count) → Holding (w * h) (rules.place (configOf o) w (now (image .entry)) i (v .left) (v .up) st) t₀ (now (labels .exit)) (now (links .exit)) (now (table .exit)) (now (ends .exit)) (r .next) (r .count)) ⌝ }
 {
-    let c = keying::color_at(image, i);
-    if keying::is_key(image, o, i) {
-        if keying::is_discard(o) {
-            return s;
-        }
-        builder::add(labels, links, table, ends, 0, i, x, y, c);
-        return s;
+    let to = aims(image, o, shift, w, h, i, x, y);
+    if is_nowhere(to) {
+        return Slots {
+            next: v.next,
+            count: v.count,
+        };
     }
-    let to = joins(image, o, shift, w, h, x, y);
-    match to {
-        Into::Up => {
-            builder::add(labels, links, table, ends, u, i, x, y, c);
-            s
-        }
-        Into::Left => {
-            builder::add(labels, links, table, ends, l, i, x, y, c);
-            s
-        }
-        Into::Fresh => begin_cluster(labels, links, table, ends, s, i, x, y, c),
+    let t = slot_for(table, to, v);
+    let c = keying::color_at(image, i);
+    builder::add(labels, links, table, ends, t.slot, i, x, y, c);
+    Slots {
+        next: t.next,
+        count: t.count,
     }
 }
 
@@ -214,65 +269,36 @@ fn lower_next(s: Slots, l: u32) -> Slots
     s
 }
 
-// Step 1: the smaller cluster goes into the larger, left into up on equal counts; then the others, with the survivor's number for both.
-fn combine_then_place(
-    image: &[u8],
+// Step 1, the merge: the smaller cluster goes into the larger, left into up on equal counts. Both sides then have the survivor's number.
+fn combine(
     labels: &mut [u32],
     links: &mut [u32],
     table: &mut [u32],
     ends: &mut [u32],
-    o: RunnerConfig,
-    shift: u32,
-    w: u32,
-    h: u32,
     l: u32,
     u: u32,
     s: Slots,
-    i: u32,
-    x: u32,
-    y: u32,
-) -> Slots
-    requires { ⌜ ((st : State) × (t₀ : List ℕ) × Meeting (configOf o) w h (now image) shift i x y l u st t₀ (now labels) (now links) (now table) (now ends) (s .next) (s .count)) ⌝ }
-    ensures { λ r. ⌜ ((st : State) (t₀ : List ℕ) → Meeting (configOf o) w h (now (image .entry)) shift i x y l u st t₀ (now (labels .entry)) (now (links .entry)) (now (table .entry)) (now (ends .entry)) (s .next) (s .count) → Holding (w * h) (rules.combineThenPlace (configOf o) w (now (image .entry)) i l u st) t₀ (now (labels .exit)) (now (links .exit)) (now (table .exit)) (now (ends .exit)) (r .next) (r .count)) ⌝ }
+) -> Sides
+    requires { ⌜ ((o : Config) × (w : ℕ) × (h : ℕ) × (image : List ℕ) × (shift : ℕ) × (i : ℕ) × (x : ℕ) × (y : ℕ) × (st : State) × (t₀ : List ℕ) × Meeting o w h image shift i x y l u st t₀ (now labels) (now links) (now table) (now ends) (s .next) (s .count)) ⌝ }
+    ensures { λ r. ⌜ ((o : Config) (w h : ℕ) (image : List ℕ) (shift i x y : ℕ) (st : State) (t₀ : List ℕ) → Meeting o w h image shift i x y l u st t₀ (now (labels .entry)) (now (links .entry)) (now (table .entry)) (now (ends .entry)) (s .next) (s .count) → Sided o w h image shift i x y (rules.combineThenPlace o w image i l u st) t₀ (now (labels .exit)) (now (links .exit)) (now (table .exit)) (now (ends .exit)) (r .left) (r .up) (r .next) (r .count)) ⌝ }
 {
     if slot::count_of(table, l) <= slot::count_of(table, u) {
         builder::combine(labels, links, table, ends, l, u);
-        return place(
-            image,
-            labels,
-            links,
-            table,
-            ends,
-            o,
-            shift,
-            w,
-            h,
-            u,
-            u,
-            lower_next(s, l),
-            i,
-            x,
-            y,
-        );
+        let t = lower_next(s, l);
+        return Sides {
+            left: u,
+            up: u,
+            next: t.next,
+            count: t.count,
+        };
     }
     builder::combine(labels, links, table, ends, u, l);
-    place(
-        image,
-        labels,
-        links,
-        table,
-        ends,
-        o,
-        shift,
-        w,
-        h,
-        l,
-        l,
-        s,
-        i,
-        x,
-        y,
-    )
+    Sides {
+        left: l,
+        up: l,
+        next: s.next,
+        count: s.count,
+    }
 }
 
 // The label of the pixel above and of the one to the left, 0 off the image.
@@ -297,6 +323,38 @@ fn left_label(labels: &[u32], i: u32, x: u32) -> u32
     labels[(i - 1) as usize]
 }
 
+// Step 1: the labels of left and up, whose clusters are combined where they meet.
+fn meet(
+    image: &[u8],
+    labels: &mut [u32],
+    links: &mut [u32],
+    table: &mut [u32],
+    ends: &mut [u32],
+    o: RunnerConfig,
+    shift: u32,
+    w: u32,
+    h: u32,
+    s: Slots,
+    i: u32,
+    x: u32,
+    y: u32,
+) -> Sides
+    requires { ⌜ ((t₀ : List ℕ) × Taking (configOf o) w h (now image) shift i x y t₀ (now labels) (now links) (now table) (now ends) (s .next) (s .count)) ⌝ }
+    ensures { λ r. ⌜ ((t₀ : List ℕ) → Taking (configOf o) w h (now (image .entry)) shift i x y t₀ (now (labels .entry)) (now (links .entry)) (now (table .entry)) (now (ends .entry)) (s .next) (s .count) → Sided (configOf o) w h (now (image .entry)) shift i x y (rules.taken (configOf o) w (now (image .entry)) (w * h) (suc i)) t₀ (now (labels .exit)) (now (links .exit)) (now (table .exit)) (now (ends .exit)) (r .left) (r .up) (r .next) (r .count)) ⌝ }
+{
+    let u = up_label(labels, w, i, y);
+    let l = left_label(labels, i, x);
+    if left_meets_up(image, o, shift, w, h, l, u, x, y) {
+        return combine(labels, links, table, ends, l, u, s);
+    }
+    Sides {
+        left: l,
+        up: u,
+        next: s.next,
+        count: s.count,
+    }
+}
+
 // Pixel i, at column x and row y, is taken.
 fn take_pixel(
     image: &[u8],
@@ -316,27 +374,21 @@ fn take_pixel(
     requires { ⌜ ((t₀ : List ℕ) × Taking (configOf o) w h (now image) shift i x y t₀ (now labels) (now links) (now table) (now ends) (s .next) (s .count)) ⌝ }
     ensures { λ r. ⌜ ((t₀ : List ℕ) → Taking (configOf o) w h (now (image .entry)) shift i x y t₀ (now (labels .entry)) (now (links .entry)) (now (table .entry)) (now (ends .entry)) (s .next) (s .count) → Holding (w * h) (rules.taken (configOf o) w (now (image .entry)) (w * h) (suc i)) t₀ (now (labels .exit)) (now (links .exit)) (now (table .exit)) (now (ends .exit)) (r .next) (r .count)) ⌝ }
 {
-    let u = up_label(labels, w, i, y);
-    let l = left_label(labels, i, x);
-    if left_meets_up(image, o, shift, w, h, l, u, x, y) {
-        return combine_then_place(
-            image,
-            labels,
-            links,
-            table,
-            ends,
-            o,
-            shift,
-            w,
-            h,
-            l,
-            u,
-            s,
-            i,
-            x,
-            y,
-        );
-    }
+    let v = meet(
+        image,
+        labels,
+        links,
+        table,
+        ends,
+        o,
+        shift,
+        w,
+        h,
+        s,
+        i,
+        x,
+        y,
+    );
     place(
         image,
         labels,
@@ -347,9 +399,7 @@ fn take_pixel(
         shift,
         w,
         h,
-        l,
-        u,
-        s,
+        v,
         i,
         x,
         y,
