@@ -3,25 +3,13 @@ use crate::reading;
 use color_clusters::Answer;
 use color_clusters::RunnerConfig;
 
-// The first n numbers of buffer, or all of it where it is shorter.
-pub fn cut(buffer: &mut [u32], n: usize) -> &mut [u32] {
-    let k = reading::least(n, buffer.len());
-    &mut buffer[0..k]
-}
-
-// The first n numbers of buffer, to be read.
-pub fn first(buffer: &[u32], n: usize) -> &[u32] {
+// The first n numbers of buffer, or all of it where it is shorter, to be read.
+pub(crate) fn first(buffer: &[u32], n: usize) -> &[u32] {
     &buffer[0..reading::least(n, buffer.len())]
 }
 
-// The first n bytes of buffer, or all of it where it is shorter.
-pub fn cut_bytes(buffer: &mut [u8], n: usize) -> &mut [u8] {
-    let k = reading::least(n, buffer.len());
-    &mut buffer[0..k]
-}
-
 // One more, where it is to be counted.
-pub fn count(sum: u64, more: bool) -> u64 {
+pub(crate) fn count(sum: u64, more: bool) -> u64 {
     if more {
         std::num::wrapping_add_u64(sum, 1)
     } else {
@@ -43,13 +31,21 @@ fn fill(buffer: &mut [u32]) {
     }
 }
 
+// The first n numbers of buffer, or all of it where it is shorter, with the pattern in them.
+pub(crate) fn filled(buffer: &mut [u32], n: usize) -> &mut [u32] {
+    let k = reading::least(n, buffer.len());
+    let lent = &mut buffer[0..k];
+    fill(lent);
+    lent
+}
+
 // What stands at a place of a picture or of a destination before a call.
 fn byte_pattern(i: usize) -> u8 {
     (i % 251) as u8
 }
 
 // Puts that into all of buffer.
-pub fn fill_bytes(buffer: &mut [u8]) {
+pub(crate) fn fill_bytes(buffer: &mut [u8]) {
     let mut i = 0;
     while i < buffer.len() {
         buffer[i] = byte_pattern(i);
@@ -57,8 +53,16 @@ pub fn fill_bytes(buffer: &mut [u8]) {
     }
 }
 
+// The first n bytes of buffer, or all of it where it is shorter, with that in them.
+pub(crate) fn filled_bytes(buffer: &mut [u8], n: usize) -> &mut [u8] {
+    let k = reading::least(n, buffer.len());
+    let lent = &mut buffer[0..k];
+    fill_bytes(lent);
+    lent
+}
+
 // Whether bytes are those that stand from a place on before a call.
-pub fn are_filled(bytes: &[u8], from: usize) -> bool {
+pub(crate) fn are_filled(bytes: &[u8], from: usize) -> bool {
     let mut i = 0;
     while i < bytes.len() {
         if bytes[i] != byte_pattern(std::num::wrapping_add_usize(from, i)) {
@@ -69,39 +73,9 @@ pub fn are_filled(bytes: &[u8], from: usize) -> bool {
     true
 }
 
-// Puts the pattern into every buffer.
-fn fill_all(
-    labels: &mut [u32],
-    links: &mut [u32],
-    table: &mut [u32],
-    outputs: &mut [u32],
-    work: &mut [u32],
-) {
-    fill(labels);
-    fill(links);
-    fill(table);
-    fill(outputs);
-    fill(work);
-}
-
-// Runs in buffers that are filled with the pattern.
-pub fn run_filled(
-    o: RunnerConfig,
-    w: u32,
-    h: u32,
-    image: &[u8],
-    labels: &mut [u32],
-    links: &mut [u32],
-    table: &mut [u32],
-    outputs: &mut [u32],
-    work: &mut [u32],
-) -> Answer {
-    fill_all(labels, links, table, outputs, work);
-    color_clusters::run(o, w, h, image, labels, links, table, outputs, work)
-}
-
-// Runs and paints in buffers that are filled with the pattern.
-pub fn run_and_paint_filled(
+// Runs, or runs and paints, so that both are tried in the same way.
+pub(crate) fn call(
+    paints: bool,
     o: RunnerConfig,
     w: u32,
     h: u32,
@@ -113,13 +87,25 @@ pub fn run_and_paint_filled(
     work: &mut [u32],
     picture: &mut [u8],
 ) -> Answer {
-    fill_all(labels, links, table, outputs, work);
-    fill_bytes(picture);
-    color_clusters::run_and_paint(o, w, h, image, labels, links, table, outputs, work, picture)
+    if paints {
+        return color_clusters::run_and_paint(
+            o,
+            w,
+            h,
+            image,
+            labels,
+            links,
+            table,
+            outputs,
+            work,
+            picture,
+        );
+    }
+    color_clusters::run(o, w, h, image, labels, links, table, outputs, work)
 }
 
 // Whether buffer holds the pattern from a place on.
-pub fn is_untouched(buffer: &[u32], from: usize) -> bool {
+pub(crate) fn is_untouched(buffer: &[u32], from: usize) -> bool {
     let mut i = from;
     while i < buffer.len() {
         if buffer[i] != pattern(i) {
@@ -131,7 +117,7 @@ pub fn is_untouched(buffer: &[u32], from: usize) -> bool {
 }
 
 // Whether buffer holds zeros alone.
-pub fn is_zero(buffer: &[u32]) -> bool {
+pub(crate) fn is_zero(buffer: &[u32]) -> bool {
     let mut i = 0;
     while i < buffer.len() {
         if buffer[i] != 0 {
@@ -149,7 +135,7 @@ pub struct Compared {
 }
 
 // Compares the first n numbers of buffer with the numbers recorded at c, and the rest of it with the pattern.
-pub fn compare(s: &[u8], c: Compared, buffer: &[u32], n: usize) -> Compared {
+pub(crate) fn compare(s: &[u8], c: Compared, buffer: &[u32], n: usize) -> Compared {
     if buffer.len() < n {
         return Compared {
             same: false,

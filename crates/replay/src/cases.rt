@@ -1,14 +1,14 @@
 // The recorded cases: each is run, painted and stored, and compared.
 use crate::buffers::Compared;
+use crate::buffers::are_filled;
+use crate::buffers::call;
 use crate::buffers::compare;
 use crate::buffers::count;
-use crate::buffers::cut;
-use crate::buffers::cut_bytes;
 use crate::buffers::fill_bytes;
+use crate::buffers::filled;
+use crate::buffers::filled_bytes;
 use crate::buffers::first;
 use crate::buffers::is_zero;
-use crate::buffers::run_and_paint_filled;
-use crate::buffers::run_filled;
 use crate::reading::Place;
 use crate::reading::after_pixels;
 use crate::reading::begin;
@@ -19,8 +19,10 @@ use crate::reading::part;
 use crate::reading::past;
 use crate::reading::refill;
 use crate::reading::signed;
+use crate::sheets::SLOT;
 use crate::sheets::is_picture;
 use crate::sheets::is_sheet;
+use crate::sheets::sheet_length;
 use color::Color;
 use color_clusters::Answer;
 use color_clusters::KeyingAction;
@@ -29,11 +31,13 @@ use color_clusters::RunnerConfig;
 // The largest image that is replayed, in pixels.
 const LARGEST: usize = 2400;
 
+// How many bytes its picture has, and at most its stored sheet.
+const PICTURE: usize = 9600;
+
+const SHEET: usize = 28812;
+
 // No case has more bytes.
 const LONGEST: usize = 98304;
-
-// How many numbers a slot of the table has.
-const SLOT: usize = 21;
 
 // How many numbers more than a call asks for each buffer has. A run has to leave them alone.
 const MARGIN: usize = 2;
@@ -106,21 +110,31 @@ fn area(w: u32, h: u32) -> usize {
     w as usize * h as usize
 }
 
+// A recorded case: its image is the bytes from `from` to `to`, and its answer begins there. `paints`: by `run_and_paint`.
+struct Case {
+    o: RunnerConfig,
+    w: u32,
+    h: u32,
+    from: usize,
+    to: usize,
+    paints: bool,
+}
+
 // Compares what a run answered and left in the buffers with what is recorded at a place.
 fn compare_answer(
     s: &[u8],
-    at: usize,
-    size: usize,
-    answer: Answer,
+    case: Case,
+    a: Answer,
     labels: &[u32],
     links: &[u32],
     table: &[u32],
     outputs: &[u32],
     work: &[u32],
 ) -> Compared {
-    let n = number(s, at);
+    let size = area(case.w, case.h);
+    let n = number(s, case.to);
     let m = number(s, n.at);
-    let same = (answer.number == 0) & (answer.n == n.value) & (answer.m == m.value) & is_zero(work);
+    let same = (a.number == 0) & (a.n == n.value) & (a.m == m.value) & is_zero(work);
     let c0 = Compared { same, at: m.at };
     let c1 = compare(s, c0, labels, size);
     let c2 = compare(s, c1, links, size);
@@ -139,18 +153,11 @@ fn is_painted(
     outputs: &[u32],
     picture: &mut [u8],
 ) -> bool {
+    let w = case.w;
+    let h = case.h;
     fill_bytes(picture);
-    let number = container::to_color_image(
-        case.w,
-        case.h,
-        links,
-        table,
-        outputs,
-        picture,
-        a.n,
-        a.m,
-    );
-    (number == 0) & is_picture(s, at, case.w, case.h, area(case.w, case.h), picture)
+    let number = container::to_color_image(w, h, links, table, outputs, picture, a.n, a.m);
+    (number == 0) & is_picture(s, at, w, h, area(w, h), picture)
 }
 
 // Whether storing from the buffers of a run gives their numbers.
@@ -161,52 +168,29 @@ fn is_kept(
     links: &[u32],
     table: &[u32],
     outputs: &[u32],
-    destination: &mut [u8],
 ) -> bool {
-    let size = area(case.w, case.h);
-    let pixels = first(labels, size);
-    let after = first(links, size);
+    let w = case.w;
+    let h = case.h;
+    let pixels = first(labels, area(w, h));
+    let after = first(links, area(w, h));
     let slots = first(table, SLOT * (a.n as usize));
     let entries = first(outputs, a.m as usize);
-    let length = 8 + 4 * pixels.len() + 4 * (slots.len() / SLOT) + 2 * entries.len();
-    let sheet = cut_bytes(destination, length);
-    fill_bytes(sheet);
-    let number = container::store(
-        case.w,
-        case.h,
-        labels,
-        links,
-        table,
-        outputs,
-        sheet,
-        a.n,
-        a.m,
-    );
-    (number == 0)
-        & is_sheet(
-            sheet,
-            case.w,
-            case.h,
-            a.n,
-            a.m,
-            pixels,
-            after,
-            slots,
-            entries,
-        )
+    let mut bytes = [0u8; SHEET];
+    let sheet = filled_bytes(&mut bytes, sheet_length(pixels, slots, entries));
+    let number = container::store(w, h, labels, links, table, outputs, sheet, a.n, a.m);
+    (number == 0) & is_sheet(sheet, [w, h, a.n, a.m], pixels, after, slots, entries)
 }
 
-// A recorded case: its image is the bytes from `from` to `to`, and its answer begins there.
-struct Case {
-    o: RunnerConfig,
-    w: u32,
-    h: u32,
-    from: usize,
-    to: usize,
+// Whether the picture is the recorded one where the run painted it, and as it was where not.
+fn is_shown(s: &[u8], at: usize, case: Case, picture: &[u8]) -> bool {
+    if case.paints {
+        return is_picture(s, at, case.w, case.h, area(case.w, case.h), picture);
+    }
+    are_filled(picture, 0)
 }
 
 // Compares what a run left, paints and stores from it, and compares that too.
-fn compare_buffers(
+fn compare_left(
     s: &[u8],
     case: Case,
     a: Answer,
@@ -216,59 +200,17 @@ fn compare_buffers(
     outputs: &[u32],
     work: &[u32],
     picture: &mut [u8],
-    destination: &mut [u8],
 ) -> Compared {
-    let size = area(case.w, case.h);
-    let c = compare_answer(s, case.to, size, a, labels, links, table, outputs, work);
-    let painted = is_painted(s, c.at, case, a, links, table, outputs, picture);
-    let kept = is_kept(case, a, labels, links, table, outputs, destination);
-    Compared {
-        same: c.same & painted & kept,
-        at: c.at,
-    }
+    let c = compare_answer(s, case, a, labels, links, table, outputs, work);
+    let same = c.same
+        & is_shown(s, c.at, case, picture)
+        & is_painted(s, c.at, case, a, links, table, outputs, picture)
+        & is_kept(case, a, labels, links, table, outputs);
+    Compared { same, at: c.at }
 }
 
-// Runs a case and compares.
-fn run_and_compare(
-    s: &[u8],
-    case: Case,
-    labels: &mut [u32],
-    links: &mut [u32],
-    table: &mut [u32],
-    outputs: &mut [u32],
-    work: &mut [u32],
-    picture: &mut [u8],
-    destination: &mut [u8],
-) -> Compared {
-    let o = case.o;
-    let image = part(s, case.from, case.to);
-    let a = run_filled(
-        o,
-        case.w,
-        case.h,
-        image,
-        labels,
-        links,
-        table,
-        outputs,
-        work,
-    );
-    compare_buffers(
-        s,
-        case,
-        a,
-        labels,
-        links,
-        table,
-        outputs,
-        work,
-        picture,
-        destination,
-    )
-}
-
-// Runs and paints a case in one call, and compares. What is recorded of it ends with the picture.
-fn run_and_paint_and_compare(
+// Runs a case, and compares.
+fn compare_run(
     s: &[u8],
     case: Case,
     labels: &mut [u32],
@@ -280,7 +222,8 @@ fn run_and_paint_and_compare(
 ) -> Compared {
     let o = case.o;
     let image = part(s, case.from, case.to);
-    let a = run_and_paint_filled(
+    let a = call(
+        case.paints,
         o,
         case.w,
         case.h,
@@ -292,85 +235,58 @@ fn run_and_paint_and_compare(
         work,
         picture,
     );
+    compare_left(s, case, a, labels, links, table, outputs, work, picture)
+}
+
+// Runs a case in buffers that hold the pattern, and compares. Each has two numbers more than the largest image asks for.
+fn run_case(s: &[u8], case: Case) -> Compared {
     let size = area(case.w, case.h);
-    let c = compare_answer(s, case.to, size, a, labels, links, table, outputs, work);
-    Compared {
-        same: c.same & is_picture(s, c.at, case.w, case.h, size, picture),
-        at: after_pixels(s, c.at, size),
-    }
-}
-
-// Makes every call of a case in buffers of its size.
-fn compare_case(
-    s: &[u8],
-    case: Case,
-    labels: &mut [u32],
-    links: &mut [u32],
-    table: &mut [u32],
-    outputs: &mut [u32],
-    work: &mut [u32],
-    picture: &mut [u8],
-    destination: &mut [u8],
-) -> Compared {
-    let ran = run_and_compare(
-        s,
-        case,
-        labels,
-        links,
-        table,
-        outputs,
-        work,
-        picture,
-        destination,
-    );
-    let painted = run_and_paint_and_compare(s, case, labels, links, table, outputs, work, picture);
-    Compared {
-        same: ran.same & painted.same,
-        at: painted.at,
-    }
-}
-
-// Replays the case at a place. One that is too large or not whole ends past s.
-fn replay_case(
-    s: &[u8],
-    at: usize,
-    labels: &mut [u32],
-    links: &mut [u32],
-    table: &mut [u32],
-    outputs: &mut [u32],
-    work: &mut [u32],
-    picture: &mut [u8],
-    destination: &mut [u8],
-) -> Compared {
-    let settings = settings_at(s, at);
-    let o = settings.o;
-    let w = number(s, settings.at);
-    let h = number(s, w.at);
-    let size = area(w.value, h.value);
     if LARGEST < size {
         return Compared {
             same: false,
             at: past(s),
         };
     }
-    let case = Case {
+    let mut labels = [0u32; 2402];
+    let mut links = [0u32; 2402];
+    let mut table = [0u32; 50423];
+    let mut outputs = [0u32; 4802];
+    let mut work = [0u32; 19210];
+    let mut picture = [0u8; PICTURE];
+    compare_run(
+        s,
+        case,
+        filled(&mut labels, size + MARGIN),
+        filled(&mut links, size + MARGIN),
+        filled(&mut table, SLOT * (size + 1) + MARGIN),
+        filled(&mut outputs, 2 * size + MARGIN),
+        filled(&mut work, 8 * size + 8 + MARGIN),
+        filled_bytes(&mut picture, 4 * size),
+    )
+}
+
+// Replays the case at a place, by `run` and by `run_and_paint`. What is recorded of it ends with the picture. One that is too large or not whole ends past s.
+fn replay_case(s: &[u8], at: usize) -> Compared {
+    let settings = settings_at(s, at);
+    let o = settings.o;
+    let w = number(s, settings.at);
+    let h = number(s, w.at);
+    let size = area(w.value, h.value);
+    let mut case = Case {
         o,
         w: w.value,
         h: h.value,
         from: h.at,
         to: after_pixels(s, h.at, size),
+        paints: false,
     };
-    compare_case(
-        s,
-        case,
-        cut(labels, size + MARGIN),
-        cut(links, size + MARGIN),
-        cut(table, SLOT * (size + 1) + MARGIN),
-        cut(outputs, 2 * size + MARGIN),
-        cut(work, 8 * size + 8 + MARGIN),
-        cut_bytes(picture, 4 * size),
-        destination,
-    )
+    let ran = run_case(s, case);
+    case.paints = true;
+    let painted = run_case(s, case);
+    Compared {
+        same: ran.same & painted.same,
+        at: after_pixels(s, painted.at, size),
+    }
 }
 
 // How far a replay has come: the place, the cases that were not run, and those that differ.
@@ -381,39 +297,18 @@ struct Progress {
 }
 
 // Replays the next case. After one that was not run, none is.
-fn step(
-    window: &mut [u8],
-    r: Progress,
-    labels: &mut [u32],
-    links: &mut [u32],
-    table: &mut [u32],
-    outputs: &mut [u32],
-    work: &mut [u32],
-    picture: &mut [u8],
-    destination: &mut [u8],
-) -> Progress {
+fn step(window: &mut [u8], r: Progress) -> Progress {
     let before = r.place;
     let p = refill(window, before, LONGEST);
-    let s = part(window, 0, p.have);
-    let c = replay_case(
-        s,
-        p.at,
-        labels,
-        links,
-        table,
-        outputs,
-        work,
-        picture,
-        destination,
-    );
+    let c = replay_case(part(window, 0, p.have), p.at);
     let ran = c.at <= p.have;
-    let next = Place {
+    let place = Place {
         at: c.at,
         have: p.have,
         ended: p.ended,
     };
     Progress {
-        place: next,
+        place,
         skipped: count(r.skipped, !ran),
         differ: count(r.differ, ran & !c.same),
     }
@@ -428,16 +323,7 @@ pub struct Replayed {
 }
 
 // Replays all cases.
-pub fn replay(
-    window: &mut [u8],
-    labels: &mut [u32],
-    links: &mut [u32],
-    table: &mut [u32],
-    outputs: &mut [u32],
-    work: &mut [u32],
-    picture: &mut [u8],
-    destination: &mut [u8],
-) -> Replayed {
+pub(crate) fn replay(window: &mut [u8]) -> Replayed {
     let start = refill(window, begin(), LONGEST);
     let first = number(window, start.at);
     let cases = first.value;
@@ -453,17 +339,7 @@ pub fn replay(
     };
     let mut i = 0;
     while i < cases {
-        r = step(
-            window,
-            r,
-            labels,
-            links,
-            table,
-            outputs,
-            work,
-            picture,
-            destination,
-        );
+        r = step(window, r);
         i += 1;
     }
     let last = r.place;

@@ -1,11 +1,10 @@
 // The refusals of `run` and `run_and_paint` at their edges: the number, and that a refused call changes nothing.
 use crate::buffers::are_filled;
+use crate::buffers::call;
 use crate::buffers::count;
-use crate::buffers::cut;
-use crate::buffers::cut_bytes;
+use crate::buffers::filled;
+use crate::buffers::filled_bytes;
 use crate::buffers::is_untouched;
-use crate::buffers::run_and_paint_filled;
-use crate::buffers::run_filled;
 use crate::reading::part;
 use color::Color;
 use color_clusters::Answer;
@@ -74,8 +73,8 @@ fn empty(shift: i32, w: u32, h: u32, number: u32) -> Edge {
     e
 }
 
-// How many calls `edge_at` has.
-const EDGES: u64 = 31;
+// How many calls are made: each of `edge_at` without a picture, and with one that is a byte too short, right, and a byte too long.
+pub(crate) const CALLS: u64 = 124;
 
 // Each number where it first appears, the last call before it that is accepted, and several faults at once.
 fn edge_at(k: u64) -> Edge {
@@ -159,24 +158,19 @@ fn is_right(
         & is_untouched(work, 0)
 }
 
-// Runs, and answers whether it went right.
-fn call(
-    e: Edge,
-    image: &[u8],
-    labels: &mut [u32],
-    links: &mut [u32],
-    table: &mut [u32],
-    outputs: &mut [u32],
-    work: &mut [u32],
-) -> bool {
-    let o = settings(e.shift);
-    let a = run_filled(o, e.w, e.h, image, labels, links, table, outputs, work);
-    is_right(e.number, a, labels, links, table, outputs, work)
+// The number that a call has to answer: with a picture of another length than 3 × 2 ask for, 6 where nothing comes before it.
+fn number_of(e: Edge, paints: bool, bytes: usize) -> u32 {
+    if (e.number == 0) & paints & (bytes != 24) {
+        6
+    } else {
+        e.number
+    }
 }
 
-// Runs and paints, and answers whether it went right: with a picture of another length than 3 × 2 ask for, 6 where nothing comes before it.
-fn call_and_paint(
+// Makes a call, and answers whether it went right. A picture is changed only where the call paints and is not refused.
+fn try_call(
     e: Edge,
+    paints: bool,
     image: &[u8],
     labels: &mut [u32],
     links: &mut [u32],
@@ -186,7 +180,8 @@ fn call_and_paint(
     picture: &mut [u8],
 ) -> bool {
     let o = settings(e.shift);
-    let a = run_and_paint_filled(
+    let a = call(
+        paints,
         o,
         e.w,
         e.h,
@@ -198,135 +193,41 @@ fn call_and_paint(
         work,
         picture,
     );
-    let number = if (e.number == 0) & (picture.len() != 24) {
-        6
-    } else {
-        e.number
-    };
+    let number = number_of(e, paints, picture.len());
     is_right(number, a, labels, links, table, outputs, work)
-        & ((number == 0) | are_filled(picture, 0))
+        & ((paints & (number == 0)) | are_filled(picture, 0))
 }
 
-// Runs with a picture of n bytes.
-fn with_picture(
-    e: Edge,
-    image: &[u8],
-    labels: &mut [u32],
-    links: &mut [u32],
-    table: &mut [u32],
-    outputs: &mut [u32],
-    work: &mut [u32],
-    picture: &mut [u8],
-    n: usize,
-) -> bool {
-    call_and_paint(
+// Makes call k in buffers of its lengths.
+fn try_edge(k: u64, bytes: &[u8]) -> bool {
+    let e = edge_at(k / 4);
+    let kind = (k % 4) as usize;
+    let mut labels = [0u32; 7];
+    let mut links = [0u32; 8];
+    let mut table = [0u32; 149];
+    let mut outputs = [0u32; 14];
+    let mut work = [0u32; 58];
+    let mut picture = [0u8; 25];
+    try_call(
         e,
-        image,
-        labels,
-        links,
-        table,
-        outputs,
-        work,
-        cut_bytes(picture, n),
-    )
-}
-
-// Runs with pictures one byte too short, of the right length, and one byte too long; answers how often it went wrong.
-fn try_pictures(
-    e: Edge,
-    image: &[u8],
-    labels: &mut [u32],
-    links: &mut [u32],
-    table: &mut [u32],
-    outputs: &mut [u32],
-    work: &mut [u32],
-    picture: &mut [u8],
-) -> u64 {
-    let mut wrong = 0;
-    let mut n = 23;
-    while n < 26 {
-        let right = with_picture(e, image, labels, links, table, outputs, work, picture, n);
-        wrong = count(wrong, !right);
-        n += 1;
-    }
-    wrong
-}
-
-// Makes the calls of an edge, without a picture and with one.
-fn try_cut(
-    e: Edge,
-    image: &[u8],
-    labels: &mut [u32],
-    links: &mut [u32],
-    table: &mut [u32],
-    outputs: &mut [u32],
-    work: &mut [u32],
-    picture: &mut [u8],
-) -> u64 {
-    let right = call(e, image, labels, links, table, outputs, work);
-    count(
-        try_pictures(e, image, labels, links, table, outputs, work, picture),
-        !right,
-    )
-}
-
-// Cuts the buffers to the lengths of an edge, and makes its calls.
-fn try_edge(
-    e: Edge,
-    bytes: &[u8],
-    labels: &mut [u32],
-    links: &mut [u32],
-    table: &mut [u32],
-    outputs: &mut [u32],
-    work: &mut [u32],
-    picture: &mut [u8],
-) -> u64 {
-    try_cut(
-        e,
+        kind != 0,
         part(bytes, 0, e.image),
-        cut(labels, e.labels),
-        cut(links, e.links),
-        cut(table, e.table),
-        cut(outputs, e.outputs),
-        cut(work, e.work),
-        picture,
+        filled(&mut labels, e.labels),
+        filled(&mut links, e.links),
+        filled(&mut table, e.table),
+        filled(&mut outputs, e.outputs),
+        filled(&mut work, e.work),
+        filled_bytes(&mut picture, 22 + kind),
     )
 }
 
-// How many calls were made, and how many of them went wrong.
-pub struct Tried {
-    pub calls: u64,
-    pub wrong: u64,
-}
-
-// Makes every call.
-pub fn all(
-    bytes: &[u8],
-    labels: &mut [u32],
-    links: &mut [u32],
-    table: &mut [u32],
-    outputs: &mut [u32],
-    work: &mut [u32],
-    picture: &mut [u8],
-) -> Tried {
+// Makes every call, on an image of the first of these bytes; answers how many went wrong.
+pub(crate) fn all(bytes: &[u8]) -> u64 {
     let mut wrong = 0;
     let mut k = 0;
-    while k < EDGES {
-        let more = try_edge(
-            edge_at(k),
-            bytes,
-            labels,
-            links,
-            table,
-            outputs,
-            work,
-            picture,
-        );
-        wrong = std::num::wrapping_add_u64(wrong, more);
+    while k < CALLS {
+        wrong = count(wrong, !try_edge(k, bytes));
         k += 1;
     }
-    Tried {
-        calls: 4 * EDGES,
-        wrong,
-    }
+    wrong
 }

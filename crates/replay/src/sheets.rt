@@ -3,7 +3,7 @@ use crate::reading::after_pixels;
 use crate::reading::part;
 
 // How many numbers a slot of the table has.
-const SLOT: usize = 21;
+pub(crate) const SLOT: usize = 21;
 
 // Whether two parts hold the same bytes.
 fn are_same(a: &[u8], b: &[u8]) -> bool {
@@ -37,8 +37,44 @@ fn are_rows(s: &[u8], at: usize, w: u32, h: u32, picture: &[u8]) -> bool {
 }
 
 // Whether a picture is the one that is recorded at a place, as a whole and row by row.
-pub fn is_picture(s: &[u8], at: usize, w: u32, h: u32, size: usize, picture: &[u8]) -> bool {
+pub(crate) fn is_picture(s: &[u8], at: usize, w: u32, h: u32, size: usize, picture: &[u8]) -> bool {
     are_same(picture, part(s, at, after_pixels(s, at, size))) & are_rows(s, at, w, h, picture)
+}
+
+// The number at a place of buffer, or one that two bytes do not hold where it has no such place.
+fn number_at(buffer: &[u32], i: usize) -> u32 {
+    if i < buffer.len() {
+        buffer[i]
+    } else {
+        4294967295
+    }
+}
+
+// What number i of a stored sheet has to be.
+fn expected(
+    i: usize,
+    counts: [u32; 4],
+    labels: &[u32],
+    links: &[u32],
+    table: &[u32],
+    outputs: &[u32],
+) -> u32 {
+    if i < 4 {
+        return counts[i];
+    }
+    let p = i - 4;
+    if p / 2 < labels.len() {
+        return if p % 2 == 0 {
+            number_at(labels, p / 2)
+        } else {
+            number_at(links, p / 2)
+        };
+    }
+    let k = p - 2 * labels.len();
+    if k / 2 < table.len() / SLOT {
+        return number_at(table, SLOT * (k / 2) + k % 2);
+    }
+    number_at(outputs, k - 2 * (table.len() / SLOT))
 }
 
 // The number of two bytes.
@@ -46,78 +82,26 @@ fn two_bytes(low: u8, high: u8) -> u32 {
     low as u32 + 256 * high as u32
 }
 
-// Whether number i after number `from` of a stored sheet is x.
-fn is_stored(sheet: &[u8], from: usize, i: usize, x: u32) -> bool {
-    let numbers = sheet.len() / 2;
-    if numbers <= from {
-        return false;
-    }
-    if numbers - from <= i {
-        return false;
-    }
-    let at = 2 * (from + i);
-    two_bytes(sheet[at], sheet[at + 1]) == x
-}
-
-// Whether label and link of each pixel are stored after the first four numbers.
-fn has_pixels(sheet: &[u8], labels: &[u32], links: &[u32]) -> bool {
-    if labels.len() != links.len() {
-        return false;
-    }
-    let mut p = 0;
-    while p < labels.len() {
-        if !is_stored(sheet, 4, 2 * p, labels[p]) | !is_stored(sheet, 5, 2 * p, links[p]) {
-            return false;
-        }
-        p += 1;
-    }
-    true
-}
-
-// Whether first pixel and count of each slot are stored after number `from`.
-fn has_slots(sheet: &[u8], from: usize, table: &[u32]) -> bool {
-    let mut k = 0;
-    while k < table.len() / SLOT {
-        if !is_stored(sheet, from, 2 * k, table[SLOT * k])
-            | !is_stored(sheet, from, 2 * k + 1, table[SLOT * k + 1])
-        {
-            return false;
-        }
-        k += 1;
-    }
-    true
-}
-
-// Whether the outputs are stored after number `from`.
-fn has_outputs(sheet: &[u8], from: usize, outputs: &[u32]) -> bool {
-    let mut i = 0;
-    while i < outputs.len() {
-        if !is_stored(sheet, from, i, outputs[i]) {
-            return false;
-        }
-        i += 1;
-    }
-    true
+// How many bytes a sheet with these buffers has.
+pub(crate) fn sheet_length(labels: &[u32], table: &[u32], outputs: &[u32]) -> usize {
+    8 + 4 * labels.len() + 4 * (table.len() / SLOT) + 2 * outputs.len()
 }
 
 // Whether a sheet with these counts is stored; labels, links, table and outputs are as long as the counts say.
-pub fn is_sheet(
+pub(crate) fn is_sheet(
     sheet: &[u8],
-    w: u32,
-    h: u32,
-    n: u32,
-    m: u32,
+    counts: [u32; 4],
     labels: &[u32],
     links: &[u32],
     table: &[u32],
     outputs: &[u32],
 ) -> bool {
-    let slots = 4 + 2 * labels.len();
-    is_stored(sheet, 0, 0, w)
-        & is_stored(sheet, 0, 1, h)
-        & is_stored(sheet, 0, 2, n)
-        & is_stored(sheet, 0, 3, m)
-        & has_pixels(sheet, labels, links)
-        & has_slots(sheet, slots, table)
-        & has_outputs(sheet, slots + 2 * (table.len() / SLOT), outputs)
+    let mut same = sheet.len() == sheet_length(labels, table, outputs);
+    let mut i = 0;
+    while i < sheet.len() / 2 {
+        let number = expected(i, counts, labels, links, table, outputs);
+        same = same & (two_bytes(sheet[2 * i], sheet[2 * i + 1]) == number);
+        i += 1;
+    }
+    same
 }
