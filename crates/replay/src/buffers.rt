@@ -1,7 +1,5 @@
 // What the lent buffers hold before a call, and what they have to hold after it.
 use crate::reading;
-use color_clusters::Answer;
-use color_clusters::RunnerConfig;
 
 // The first n numbers of buffer, or all of it where it is shorter, to be read.
 pub(crate) fn first(buffer: &[u32], n: usize) -> &[u32] {
@@ -71,37 +69,6 @@ pub(crate) fn are_filled(bytes: &[u8], from: usize) -> bool {
         i += 1;
     }
     true
-}
-
-// Runs, or runs and paints, so that both are tried in the same way.
-pub(crate) fn call(
-    paints: bool,
-    o: RunnerConfig,
-    w: u32,
-    h: u32,
-    image: &[u8],
-    labels: &mut [u32],
-    links: &mut [u32],
-    table: &mut [u32],
-    outputs: &mut [u32],
-    work: &mut [u32],
-    picture: &mut [u8],
-) -> Answer {
-    if paints {
-        return color_clusters::run_and_paint(
-            o,
-            w,
-            h,
-            image,
-            labels,
-            links,
-            table,
-            outputs,
-            work,
-            picture,
-        );
-    }
-    color_clusters::run(o, w, h, image, labels, links, table, outputs, work)
 }
 
 // Whether buffer holds the pattern from a place on.

@@ -1,11 +1,8 @@
 // The recorded cases: each is run, painted and stored, and compared.
 use crate::buffers::Compared;
 use crate::buffers::are_filled;
-use crate::buffers::call;
 use crate::buffers::compare;
 use crate::buffers::count;
-use crate::buffers::fill_bytes;
-use crate::buffers::filled;
 use crate::buffers::filled_bytes;
 use crate::buffers::first;
 use crate::buffers::is_zero;
@@ -23,17 +20,16 @@ use crate::sheets::SLOT;
 use crate::sheets::is_picture;
 use crate::sheets::is_sheet;
 use crate::sheets::sheet_length;
+use crate::trials;
+use crate::trials::LARGEST;
+use crate::trials::PICTURE;
+use crate::trials::Trial;
 use color::Color;
 use color_clusters::Answer;
 use color_clusters::KeyingAction;
 use color_clusters::RunnerConfig;
 
-// The largest image that is replayed, in pixels.
-const LARGEST: usize = 2400;
-
-// How many bytes its picture has, and at most its stored sheet.
-const PICTURE: usize = 9600;
-
+// At most so many bytes has the stored sheet of an image.
 const SHEET: usize = 28812;
 
 // No case has more bytes.
@@ -41,6 +37,26 @@ const LONGEST: usize = 98304;
 
 // How many numbers more than a call asks for each buffer has. A run has to leave them alone.
 const MARGIN: usize = 2;
+
+// The numbers before the image of a case, the settings and the size, and the place after them.
+struct Head {
+    numbers: [u32; 14],
+    at: usize,
+}
+
+// The numbers that are recorded at a place.
+fn head_at(s: &[u8], from: usize) -> Head {
+    let mut numbers = [0u32; 14];
+    let mut at = from;
+    let mut i = 0;
+    while i < 14 {
+        let next = number(s, at);
+        numbers[i] = next.value;
+        at = next.at;
+        i += 1;
+    }
+    Head { numbers, at }
+}
 
 // The keying action that is recorded as v.
 fn action(v: u32) -> KeyingAction {
@@ -51,58 +67,26 @@ fn action(v: u32) -> KeyingAction {
     }
 }
 
-// A key colour, and the place after it.
-struct Key {
-    color: Color,
-    at: usize,
-}
-
-// The key colour that is recorded at a place.
-fn key_at(s: &[u8], at: usize) -> Key {
-    let r = number(s, at);
-    let g = number(s, r.at);
-    let b = number(s, g.at);
-    let a = number(s, b.at);
-    let color = Color {
-        r: channel(r.value),
-        g: channel(g.value),
-        b: channel(b.value),
-        a: channel(a.value),
+// The settings that are recorded as these numbers.
+fn settings(v: [u32; 14]) -> RunnerConfig {
+    let key_color = Color {
+        r: channel(v[7]),
+        g: channel(v[8]),
+        b: channel(v[9]),
+        a: channel(v[10]),
     };
-    Key { color, at: a.at }
-}
-
-// Settings, and the place after them.
-struct Settings {
-    o: RunnerConfig,
-    at: usize,
-}
-
-// The settings that are recorded at a place.
-fn settings_at(s: &[u8], at: usize) -> Settings {
-    let shift = number(s, at);
-    let thres = number(s, shift.at);
-    let hierarchical = number(s, thres.at);
-    let min = number(s, hierarchical.at);
-    let max = number(s, min.at);
-    let hollow = number(s, max.at);
-    let deepen = number(s, hollow.at);
-    let key = key_at(s, deepen.at);
-    let key_color = key.color;
-    let discard = number(s, key.at);
-    let keying_action = action(discard.value);
-    let o = RunnerConfig {
-        is_same_color_a: signed(shift.value),
-        is_same_color_b: signed(thres.value),
-        hierarchical: hierarchical.value,
-        good_min_area: min.value,
-        good_max_area: max.value,
-        hollow_neighbours: hollow.value,
-        deepen_diff: signed(deepen.value),
+    let keying_action = action(v[11]);
+    RunnerConfig {
+        is_same_color_a: signed(v[0]),
+        is_same_color_b: signed(v[1]),
+        hierarchical: v[2],
+        good_min_area: v[3],
+        good_max_area: v[4],
+        hollow_neighbours: v[5],
+        deepen_diff: signed(v[6]),
         key_color,
         keying_action,
-    };
-    Settings { o, at: discard.at }
+    }
 }
 
 // The number of pixels.
@@ -110,20 +94,10 @@ fn area(w: u32, h: u32) -> usize {
     w as usize * h as usize
 }
 
-// A recorded case: its image is the bytes from `from` to `to`, and its answer begins there. `paints`: by `run_and_paint`.
-struct Case {
-    o: RunnerConfig,
-    w: u32,
-    h: u32,
-    from: usize,
-    to: usize,
-    paints: bool,
-}
-
 // Compares what a run answered and left in the buffers with what is recorded at a place.
 fn compare_answer(
     s: &[u8],
-    case: Case,
+    t: Trial,
     a: Answer,
     labels: &[u32],
     links: &[u32],
@@ -131,8 +105,8 @@ fn compare_answer(
     outputs: &[u32],
     work: &[u32],
 ) -> Compared {
-    let size = area(case.w, case.h);
-    let n = number(s, case.to);
+    let size = area(t.w, t.h);
+    let n = number(s, t.to);
     let m = number(s, n.at);
     let same = (a.number == 0) & (a.n == n.value) & (a.m == m.value) & is_zero(work);
     let c0 = Compared { same, at: m.at };
@@ -142,147 +116,102 @@ fn compare_answer(
     compare(s, c3, outputs, m.value as usize)
 }
 
+// Whether the picture is the recorded one where the run painted it, and as it was where not.
+fn is_shown(s: &[u8], at: usize, t: Trial, picture: &[u8]) -> bool {
+    if t.paints {
+        return is_picture(s, at, t.w, t.h, area(t.w, t.h), picture);
+    }
+    are_filled(picture, 0)
+}
+
 // Whether painting from the buffers of a run gives the picture that is recorded at a place.
 fn is_painted(
     s: &[u8],
     at: usize,
-    case: Case,
+    t: Trial,
     a: Answer,
     links: &[u32],
     table: &[u32],
     outputs: &[u32],
-    picture: &mut [u8],
 ) -> bool {
-    let w = case.w;
-    let h = case.h;
-    fill_bytes(picture);
-    let number = container::to_color_image(w, h, links, table, outputs, picture, a.n, a.m);
-    (number == 0) & is_picture(s, at, w, h, area(w, h), picture)
+    let mut bytes = [0u8; PICTURE];
+    let picture = filled_bytes(&mut bytes, t.picture);
+    let number = container::to_color_image(t.w, t.h, links, table, outputs, picture, a.n, a.m);
+    (number == 0) & is_picture(s, at, t.w, t.h, area(t.w, t.h), picture)
 }
 
 // Whether storing from the buffers of a run gives their numbers.
 fn is_kept(
-    case: Case,
+    t: Trial,
     a: Answer,
     labels: &[u32],
     links: &[u32],
     table: &[u32],
     outputs: &[u32],
 ) -> bool {
-    let w = case.w;
-    let h = case.h;
-    let pixels = first(labels, area(w, h));
-    let after = first(links, area(w, h));
+    let size = area(t.w, t.h);
+    let pixels = first(labels, size);
+    let after = first(links, size);
     let slots = first(table, SLOT * (a.n as usize));
     let entries = first(outputs, a.m as usize);
     let mut bytes = [0u8; SHEET];
     let sheet = filled_bytes(&mut bytes, sheet_length(pixels, slots, entries));
-    let number = container::store(w, h, labels, links, table, outputs, sheet, a.n, a.m);
-    (number == 0) & is_sheet(sheet, [w, h, a.n, a.m], pixels, after, slots, entries)
-}
-
-// Whether the picture is the recorded one where the run painted it, and as it was where not.
-fn is_shown(s: &[u8], at: usize, case: Case, picture: &[u8]) -> bool {
-    if case.paints {
-        return is_picture(s, at, case.w, case.h, area(case.w, case.h), picture);
-    }
-    are_filled(picture, 0)
+    let number = container::store(t.w, t.h, labels, links, table, outputs, sheet, a.n, a.m);
+    (number == 0) & is_sheet(sheet, [t.w, t.h, a.n, a.m], pixels, after, slots, entries)
 }
 
 // Compares what a run left, paints and stores from it, and compares that too.
-fn compare_left(
+pub(crate) fn compare_left(
     s: &[u8],
-    case: Case,
+    t: Trial,
     a: Answer,
     labels: &[u32],
     links: &[u32],
     table: &[u32],
     outputs: &[u32],
     work: &[u32],
-    picture: &mut [u8],
+    picture: &[u8],
 ) -> Compared {
-    let c = compare_answer(s, case, a, labels, links, table, outputs, work);
+    let c = compare_answer(s, t, a, labels, links, table, outputs, work);
     let same = c.same
-        & is_shown(s, c.at, case, picture)
-        & is_painted(s, c.at, case, a, links, table, outputs, picture)
-        & is_kept(case, a, labels, links, table, outputs);
+        & is_shown(s, c.at, t, picture)
+        & is_painted(s, c.at, t, a, links, table, outputs)
+        & is_kept(t, a, labels, links, table, outputs);
     Compared { same, at: c.at }
 }
 
-// Runs a case, and compares.
-fn compare_run(
-    s: &[u8],
-    case: Case,
-    labels: &mut [u32],
-    links: &mut [u32],
-    table: &mut [u32],
-    outputs: &mut [u32],
-    work: &mut [u32],
-    picture: &mut [u8],
-) -> Compared {
-    let o = case.o;
-    let image = part(s, case.from, case.to);
-    let a = call(
-        case.paints,
-        o,
-        case.w,
-        case.h,
-        image,
-        labels,
-        links,
-        table,
-        outputs,
-        work,
-        picture,
-    );
-    compare_left(s, case, a, labels, links, table, outputs, work, picture)
-}
-
-// Runs a case in buffers that hold the pattern, and compares. Each has two numbers more than the largest image asks for.
-fn run_case(s: &[u8], case: Case) -> Compared {
-    let size = area(case.w, case.h);
+// Replays the case at a place, by `run` and by `run_and_paint`. What is recorded of it ends with the picture. One that is too large or not
+// whole ends past s.
+fn replay_case(s: &[u8], at: usize) -> Compared {
+    let head = head_at(s, at);
+    let v = head.numbers;
+    let size = area(v[12], v[13]);
     if LARGEST < size {
         return Compared {
             same: false,
             at: past(s),
         };
     }
-    let mut labels = [0u32; 2402];
-    let mut links = [0u32; 2402];
-    let mut table = [0u32; 50423];
-    let mut outputs = [0u32; 4802];
-    let mut work = [0u32; 19210];
-    let mut picture = [0u8; PICTURE];
-    compare_run(
-        s,
-        case,
-        filled(&mut labels, size + MARGIN),
-        filled(&mut links, size + MARGIN),
-        filled(&mut table, SLOT * (size + 1) + MARGIN),
-        filled(&mut outputs, 2 * size + MARGIN),
-        filled(&mut work, 8 * size + 8 + MARGIN),
-        filled_bytes(&mut picture, 4 * size),
-    )
-}
-
-// Replays the case at a place, by `run` and by `run_and_paint`. What is recorded of it ends with the picture. One that is too large or not whole ends past s.
-fn replay_case(s: &[u8], at: usize) -> Compared {
-    let settings = settings_at(s, at);
-    let o = settings.o;
-    let w = number(s, settings.at);
-    let h = number(s, w.at);
-    let size = area(w.value, h.value);
-    let mut case = Case {
+    let o = settings(v);
+    let mut t = Trial {
         o,
-        w: w.value,
-        h: h.value,
-        from: h.at,
-        to: after_pixels(s, h.at, size),
+        w: v[12],
+        h: v[13],
+        from: head.at,
+        to: after_pixels(s, head.at, size),
         paints: false,
+        labels: size + MARGIN,
+        links: size + MARGIN,
+        table: SLOT * (size + 1) + MARGIN,
+        outputs: 2 * size + MARGIN,
+        work: 8 * size + 8 + MARGIN,
+        picture: 4 * size,
+        recorded: true,
+        number: 0,
     };
-    let ran = run_case(s, case);
-    case.paints = true;
-    let painted = run_case(s, case);
+    let ran = trials::make(s, t);
+    t.paints = true;
+    let painted = trials::make(s, t);
     Compared {
         same: ran.same & painted.same,
         at: after_pixels(s, painted.at, size),

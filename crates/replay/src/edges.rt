@@ -286,41 +286,47 @@ fn shows(picture: &[u8], painted: usize) -> bool {
     true
 }
 
-// Paints, and answers whether it went right.
-fn paint(e: Edge, links: &[u32], table: &[u32], outputs: &[u32], picture: &mut [u8]) -> bool {
-    let number = container::to_color_image(e.w, e.h, links, table, outputs, picture, e.n, e.m);
-    if e.number != 0 {
-        return (number == e.number) & are_filled(picture, 0);
-    }
-    (number == 0) & shows(picture, e.painted)
-}
-
-// Stores, and answers whether it went right.
-fn store(
+// Stores or paints, and answers the number.
+fn call(
     e: Edge,
+    stores: bool,
     labels: &[u32],
     links: &[u32],
     table: &[u32],
     outputs: &[u32],
-    sheet: &mut [u8],
-) -> bool {
-    let number = container::store(e.w, e.h, labels, links, table, outputs, sheet, e.n, e.m);
-    if e.number != 0 {
-        return (number == e.number) & are_filled(sheet, 0);
+    bytes: &mut [u8],
+) -> u32 {
+    if stores {
+        return container::store(e.w, e.h, labels, links, table, outputs, bytes, e.n, e.m);
     }
-    (number == 0)
-        & is_sheet(
-            sheet,
-            [e.w, e.h, e.n, e.m],
-            first(labels, 6),
-            first(links, 6),
-            first(table, 42),
-            first(outputs, 2),
-        )
+    container::to_color_image(e.w, e.h, links, table, outputs, bytes, e.n, e.m)
 }
 
-// Paints or stores.
-fn paint_or_store(
+// Whether a call that was not refused left the picture of the sheet, or the sheet stored.
+fn is_left(
+    e: Edge,
+    stores: bool,
+    labels: &[u32],
+    links: &[u32],
+    table: &[u32],
+    outputs: &[u32],
+    bytes: &[u8],
+) -> bool {
+    if !stores {
+        return shows(bytes, e.painted);
+    }
+    is_sheet(
+        bytes,
+        [e.w, e.h, e.n, e.m],
+        first(labels, 6),
+        first(links, 6),
+        first(table, 42),
+        first(outputs, 2),
+    )
+}
+
+// Makes a call, and answers whether it went right.
+fn try_call(
     e: Edge,
     stores: bool,
     labels: &[u32],
@@ -329,13 +335,14 @@ fn paint_or_store(
     outputs: &[u32],
     bytes: &mut [u8],
 ) -> bool {
-    if stores {
-        return store(e, labels, links, table, outputs, bytes);
+    let number = call(e, stores, labels, links, table, outputs, bytes);
+    if e.number != 0 {
+        return (number == e.number) & are_filled(bytes, 0);
     }
-    paint(e, links, table, outputs, bytes)
+    (number == 0) & is_left(e, stores, labels, links, table, outputs, bytes)
 }
 
-// Paints or stores the sheet of a call.
+// Sets the sheet of a call, and makes it.
 fn try_sheet(e: Edge, stores: bool) -> bool {
     let mut labels = [0u32; 7];
     let mut links = [0u32; 7];
@@ -346,7 +353,7 @@ fn try_sheet(e: Edge, stores: bool) -> bool {
     set(e, LINKS, &mut links);
     set(e, TABLE, &mut table);
     set(e, OUTPUTS, &mut outputs);
-    paint_or_store(
+    try_call(
         e,
         stores,
         first(&labels, e.labels),

@@ -6,6 +6,7 @@ mod edges;
 mod reading;
 mod refusals;
 mod sheets;
+mod trials;
 
 // Writes two counts, each with the words after it.
 fn print_counts(first: u64, words: &[u8], second: u64, end: &[u8]) {

@@ -1,11 +1,9 @@
 // The refusals of `run` and `run_and_paint` at their edges: the number, and that a refused call changes nothing.
 use crate::buffers::are_filled;
-use crate::buffers::call;
 use crate::buffers::count;
-use crate::buffers::filled;
-use crate::buffers::filled_bytes;
 use crate::buffers::is_untouched;
-use crate::reading::part;
+use crate::trials;
+use crate::trials::Trial;
 use color::Color;
 use color_clusters::Answer;
 use color_clusters::KeyingAction;
@@ -135,20 +133,22 @@ fn settings(shift: i32) -> RunnerConfig {
     }
 }
 
-// Whether an answer has this number and, where it is a refusal, no counts, and every buffer is as it was filled.
-fn is_right(
-    number: u32,
+// Whether an answer has the number that it has to and, where that is a refusal, no counts, and every buffer is as it was filled. The
+// picture is so too, unless it was painted.
+pub(crate) fn is_right(
+    t: Trial,
     a: Answer,
     labels: &[u32],
     links: &[u32],
     table: &[u32],
     outputs: &[u32],
     work: &[u32],
+    picture: &[u8],
 ) -> bool {
-    if number == 0 {
-        return a.number == 0;
+    if t.number == 0 {
+        return (a.number == 0) & (t.paints | are_filled(picture, 0));
     }
-    (a.number == number)
+    (a.number == t.number)
         & (a.n == 0)
         & (a.m == 0)
         & is_untouched(labels, 0)
@@ -156,77 +156,39 @@ fn is_right(
         & is_untouched(table, 0)
         & is_untouched(outputs, 0)
         & is_untouched(work, 0)
+        & are_filled(picture, 0)
 }
 
-// The number that a call has to answer: with a picture of another length than 3 × 2 ask for, 6 where nothing comes before it.
-fn number_of(e: Edge, paints: bool, bytes: usize) -> u32 {
-    if (e.number == 0) & paints & (bytes != 24) {
-        6
-    } else {
-        e.number
-    }
-}
-
-// Makes a call, and answers whether it went right. A picture is changed only where the call paints and is not refused.
-fn try_call(
-    e: Edge,
-    paints: bool,
-    image: &[u8],
-    labels: &mut [u32],
-    links: &mut [u32],
-    table: &mut [u32],
-    outputs: &mut [u32],
-    work: &mut [u32],
-    picture: &mut [u8],
-) -> bool {
+// The call of an edge, without a picture where kind is 0, and else with one of 22 + kind bytes: of another length than 3 × 2 ask for, it has
+// to answer 6 where nothing comes before that.
+fn trial(e: Edge, kind: usize) -> Trial {
     let o = settings(e.shift);
-    let a = call(
-        paints,
+    let short = (e.number == 0) & (kind % 2 == 1);
+    Trial {
         o,
-        e.w,
-        e.h,
-        image,
-        labels,
-        links,
-        table,
-        outputs,
-        work,
-        picture,
-    );
-    let number = number_of(e, paints, picture.len());
-    is_right(number, a, labels, links, table, outputs, work)
-        & ((paints & (number == 0)) | are_filled(picture, 0))
-}
-
-// Makes call k in buffers of its lengths.
-fn try_edge(k: u64, bytes: &[u8]) -> bool {
-    let e = edge_at(k / 4);
-    let kind = (k % 4) as usize;
-    let mut labels = [0u32; 7];
-    let mut links = [0u32; 8];
-    let mut table = [0u32; 149];
-    let mut outputs = [0u32; 14];
-    let mut work = [0u32; 58];
-    let mut picture = [0u8; 25];
-    try_call(
-        e,
-        kind != 0,
-        part(bytes, 0, e.image),
-        filled(&mut labels, e.labels),
-        filled(&mut links, e.links),
-        filled(&mut table, e.table),
-        filled(&mut outputs, e.outputs),
-        filled(&mut work, e.work),
-        filled_bytes(&mut picture, 22 + kind),
-    )
+        w: e.w,
+        h: e.h,
+        from: 0,
+        to: e.image,
+        paints: kind != 0,
+        labels: e.labels,
+        links: e.links,
+        table: e.table,
+        outputs: e.outputs,
+        work: e.work,
+        picture: 22 + kind % 4,
+        recorded: false,
+        number: if short { 6 } else { e.number },
+    }
 }
 
 // Makes every call, on an image of the first of these bytes; answers how many went wrong.
 pub(crate) fn all(bytes: &[u8]) -> u64 {
     let mut wrong = 0;
-    let mut k = 0;
+    let mut k: u64 = 0;
     while k < CALLS {
-        wrong = count(wrong, !try_edge(k, bytes));
+        let c = trials::make(bytes, trial(edge_at(k / 4), (k % 4) as usize));
+        wrong = count(wrong, !c.same);
         k += 1;
     }
     wrong
