@@ -20,21 +20,15 @@ fn pattern(i: usize) -> u32 {
     (i % 1000000) as u32 + 3000000000
 }
 
-// Puts the pattern into all of buffer.
-fn fill(buffer: &mut [u32]) {
-    let mut i = 0;
-    while i < buffer.len() {
-        buffer[i] = pattern(i);
-        i += 1;
-    }
-}
-
 // The first n numbers of buffer, or all of it where it is shorter, with the pattern in them.
 pub(crate) fn filled(buffer: &mut [u32], n: usize) -> &mut [u32] {
     let k = reading::least(n, buffer.len());
-    let lent = &mut buffer[0..k];
-    fill(lent);
-    lent
+    let mut i = 0;
+    while i < k {
+        buffer[i] = pattern(i);
+        i += 1;
+    }
+    &mut buffer[0..k]
 }
 
 // What stands at a place of a picture or of a destination before a call.
@@ -42,21 +36,15 @@ fn byte_pattern(i: usize) -> u8 {
     (i % 251) as u8
 }
 
-// Puts that into all of buffer.
-pub(crate) fn fill_bytes(buffer: &mut [u8]) {
-    let mut i = 0;
-    while i < buffer.len() {
-        buffer[i] = byte_pattern(i);
-        i += 1;
-    }
-}
-
 // The first n bytes of buffer, or all of it where it is shorter, with that in them.
 pub(crate) fn filled_bytes(buffer: &mut [u8], n: usize) -> &mut [u8] {
     let k = reading::least(n, buffer.len());
-    let lent = &mut buffer[0..k];
-    fill_bytes(lent);
-    lent
+    let mut i = 0;
+    while i < k {
+        buffer[i] = byte_pattern(i);
+        i += 1;
+    }
+    &mut buffer[0..k]
 }
 
 // Whether bytes are those that stand from a place on before a call.

@@ -19,7 +19,6 @@ use crate::reading::signed;
 use crate::sheets::SLOT;
 use crate::sheets::is_picture;
 use crate::sheets::is_sheet;
-use crate::sheets::sheet_length;
 use crate::trials;
 use crate::trials::LARGEST;
 use crate::trials::PICTURE;
@@ -33,30 +32,10 @@ use color_clusters::RunnerConfig;
 const SHEET: usize = 28812;
 
 // No case has more bytes.
-const LONGEST: usize = 98304;
+const LONGEST: usize = 69632;
 
 // How many numbers more than a call asks for each buffer has. A run has to leave them alone.
 const MARGIN: usize = 2;
-
-// The numbers before the image of a case, the settings and the size, and the place after them.
-struct Head {
-    numbers: [u32; 14],
-    at: usize,
-}
-
-// The numbers that are recorded at a place.
-fn head_at(s: &[u8], from: usize) -> Head {
-    let mut numbers = [0u32; 14];
-    let mut at = from;
-    let mut i = 0;
-    while i < 14 {
-        let next = number(s, at);
-        numbers[i] = next.value;
-        at = next.at;
-        i += 1;
-    }
-    Head { numbers, at }
-}
 
 // The keying action that is recorded as v.
 fn action(v: u32) -> KeyingAction {
@@ -67,26 +46,58 @@ fn action(v: u32) -> KeyingAction {
     }
 }
 
-// The settings that are recorded as these numbers.
-fn settings(v: [u32; 14]) -> RunnerConfig {
-    let key_color = Color {
-        r: channel(v[7]),
-        g: channel(v[8]),
-        b: channel(v[9]),
-        a: channel(v[10]),
+// A key colour, and the place after it.
+struct Key {
+    color: Color,
+    at: usize,
+}
+
+// The key colour that is recorded at a place.
+fn key_at(s: &[u8], at: usize) -> Key {
+    let r = number(s, at);
+    let g = number(s, r.at);
+    let b = number(s, g.at);
+    let a = number(s, b.at);
+    let color = Color {
+        r: channel(r.value),
+        g: channel(g.value),
+        b: channel(b.value),
+        a: channel(a.value),
     };
-    let keying_action = action(v[11]);
-    RunnerConfig {
-        is_same_color_a: signed(v[0]),
-        is_same_color_b: signed(v[1]),
-        hierarchical: v[2],
-        good_min_area: v[3],
-        good_max_area: v[4],
-        hollow_neighbours: v[5],
-        deepen_diff: signed(v[6]),
+    Key { color, at: a.at }
+}
+
+// Settings, and the place after them.
+struct Settings {
+    o: RunnerConfig,
+    at: usize,
+}
+
+// The settings that are recorded at a place.
+fn settings_at(s: &[u8], at: usize) -> Settings {
+    let shift = number(s, at);
+    let thres = number(s, shift.at);
+    let hierarchical = number(s, thres.at);
+    let min = number(s, hierarchical.at);
+    let max = number(s, min.at);
+    let hollow = number(s, max.at);
+    let deepen = number(s, hollow.at);
+    let key = key_at(s, deepen.at);
+    let key_color = key.color;
+    let discard = number(s, key.at);
+    let keying_action = action(discard.value);
+    let o = RunnerConfig {
+        is_same_color_a: signed(shift.value),
+        is_same_color_b: signed(thres.value),
+        hierarchical: hierarchical.value,
+        good_min_area: min.value,
+        good_max_area: max.value,
+        hollow_neighbours: hollow.value,
+        deepen_diff: signed(deepen.value),
         key_color,
         keying_action,
-    }
+    };
+    Settings { o, at: discard.at }
 }
 
 // The number of pixels.
@@ -95,7 +106,7 @@ fn area(w: u32, h: u32) -> usize {
 }
 
 // Compares what a run answered and left in the buffers with what is recorded at a place.
-fn compare_answer(
+pub(crate) fn compare_answer(
     s: &[u8],
     t: Trial,
     a: Answer,
@@ -117,7 +128,7 @@ fn compare_answer(
 }
 
 // Whether the picture is the recorded one where the run painted it, and as it was where not.
-fn is_shown(s: &[u8], at: usize, t: Trial, picture: &[u8]) -> bool {
+pub(crate) fn is_shown(s: &[u8], at: usize, t: Trial, picture: &[u8]) -> bool {
     if t.paints {
         return is_picture(s, at, t.w, t.h, area(t.w, t.h), picture);
     }
@@ -125,7 +136,7 @@ fn is_shown(s: &[u8], at: usize, t: Trial, picture: &[u8]) -> bool {
 }
 
 // Whether painting from the buffers of a run gives the picture that is recorded at a place.
-fn is_painted(
+pub(crate) fn is_painted(
     s: &[u8],
     at: usize,
     t: Trial,
@@ -141,7 +152,7 @@ fn is_painted(
 }
 
 // Whether storing from the buffers of a run gives their numbers.
-fn is_kept(
+pub(crate) fn is_kept(
     t: Trial,
     a: Answer,
     labels: &[u32],
@@ -149,56 +160,34 @@ fn is_kept(
     table: &[u32],
     outputs: &[u32],
 ) -> bool {
-    let size = area(t.w, t.h);
-    let pixels = first(labels, size);
-    let after = first(links, size);
-    let slots = first(table, SLOT * (a.n as usize));
-    let entries = first(outputs, a.m as usize);
+    let pixels = first(labels, area(t.w, t.h));
+    let length = 8 + 4 * pixels.len() + 4 * (a.n as usize) + 2 * (a.m as usize);
     let mut bytes = [0u8; SHEET];
-    let sheet = filled_bytes(&mut bytes, sheet_length(pixels, slots, entries));
+    let sheet = filled_bytes(&mut bytes, length);
     let number = container::store(t.w, t.h, labels, links, table, outputs, sheet, a.n, a.m);
-    (number == 0) & is_sheet(sheet, [t.w, t.h, a.n, a.m], pixels, after, slots, entries)
-}
-
-// Compares what a run left, paints and stores from it, and compares that too.
-pub(crate) fn compare_left(
-    s: &[u8],
-    t: Trial,
-    a: Answer,
-    labels: &[u32],
-    links: &[u32],
-    table: &[u32],
-    outputs: &[u32],
-    work: &[u32],
-    picture: &[u8],
-) -> Compared {
-    let c = compare_answer(s, t, a, labels, links, table, outputs, work);
-    let same = c.same
-        & is_shown(s, c.at, t, picture)
-        & is_painted(s, c.at, t, a, links, table, outputs)
-        & is_kept(t, a, labels, links, table, outputs);
-    Compared { same, at: c.at }
+    (number == 0) & is_sheet(sheet, t.w, t.h, a.n, a.m, pixels, links, table, outputs)
 }
 
 // Replays the case at a place, by `run` and by `run_and_paint`. What is recorded of it ends with the picture. One that is too large or not
 // whole ends past s.
 fn replay_case(s: &[u8], at: usize) -> Compared {
-    let head = head_at(s, at);
-    let v = head.numbers;
-    let size = area(v[12], v[13]);
+    let settings = settings_at(s, at);
+    let o = settings.o;
+    let w = number(s, settings.at);
+    let h = number(s, w.at);
+    let size = area(w.value, h.value);
     if LARGEST < size {
         return Compared {
             same: false,
             at: past(s),
         };
     }
-    let o = settings(v);
     let mut t = Trial {
         o,
-        w: v[12],
-        h: v[13],
-        from: head.at,
-        to: after_pixels(s, head.at, size),
+        w: w.value,
+        h: h.value,
+        from: h.at,
+        to: after_pixels(s, h.at, size),
         paints: false,
         labels: size + MARGIN,
         links: size + MARGIN,
@@ -234,7 +223,6 @@ fn step(window: &mut [u8], r: Progress) -> Progress {
     let place = Place {
         at: c.at,
         have: p.have,
-        ended: p.ended,
     };
     Progress {
         place,
@@ -259,7 +247,6 @@ pub(crate) fn replay(window: &mut [u8]) -> Replayed {
     let place = Place {
         at: first.at,
         have: start.have,
-        ended: start.ended,
     };
     let mut r = Progress {
         place,

@@ -1,7 +1,6 @@
 // Painting, rows and storing at the edges of their refusals, from buffers that no run made: the number, and that a refused call changes nothing.
 use crate::buffers::are_filled;
 use crate::buffers::count;
-use crate::buffers::fill_bytes;
 use crate::buffers::filled_bytes;
 use crate::buffers::first;
 use crate::reading::part;
@@ -302,66 +301,48 @@ fn call(
     container::to_color_image(e.w, e.h, links, table, outputs, bytes, e.n, e.m)
 }
 
-// Whether a call that was not refused left the picture of the sheet, or the sheet stored.
-fn is_left(
+// Whether a call went right by its number and the bytes that it left: as they were where it is refused, and else the sheet or its picture.
+fn is_right(
     e: Edge,
     stores: bool,
+    number: u32,
     labels: &[u32],
     links: &[u32],
     table: &[u32],
     outputs: &[u32],
     bytes: &[u8],
 ) -> bool {
-    if !stores {
-        return shows(bytes, e.painted);
+    if number != e.number {
+        return false;
     }
-    is_sheet(
-        bytes,
-        [e.w, e.h, e.n, e.m],
-        first(labels, 6),
-        first(links, 6),
-        first(table, 42),
-        first(outputs, 2),
-    )
+    if number != 0 {
+        return are_filled(bytes, 0);
+    }
+    if stores {
+        let pixels = first(labels, 6);
+        return is_sheet(bytes, e.w, e.h, e.n, e.m, pixels, links, table, outputs);
+    }
+    shows(bytes, e.painted)
 }
 
-// Makes a call, and answers whether it went right.
-fn try_call(
-    e: Edge,
-    stores: bool,
-    labels: &[u32],
-    links: &[u32],
-    table: &[u32],
-    outputs: &[u32],
-    bytes: &mut [u8],
-) -> bool {
-    let number = call(e, stores, labels, links, table, outputs, bytes);
-    if e.number != 0 {
-        return (number == e.number) & are_filled(bytes, 0);
-    }
-    (number == 0) & is_left(e, stores, labels, links, table, outputs, bytes)
-}
-
-// Sets the sheet of a call, and makes it.
+// Sets the sheet of a call, makes it, and answers whether it went right.
 fn try_sheet(e: Edge, stores: bool) -> bool {
-    let mut labels = [0u32; 7];
-    let mut links = [0u32; 7];
-    let mut table = [0u32; 148];
-    let mut outputs = [0u32; 13];
+    let mut all_labels = [0u32; 7];
+    let mut all_links = [0u32; 7];
+    let mut slots = [0u32; 148];
+    let mut entries = [0u32; 13];
     let mut bytes = [0u8; 45];
-    set(e, LABELS, &mut labels);
-    set(e, LINKS, &mut links);
-    set(e, TABLE, &mut table);
-    set(e, OUTPUTS, &mut outputs);
-    try_call(
-        e,
-        stores,
-        first(&labels, e.labels),
-        first(&links, e.links),
-        first(&table, e.table),
-        first(&outputs, e.outputs),
-        filled_bytes(&mut bytes, e.bytes),
-    )
+    set(e, LABELS, &mut all_labels);
+    set(e, LINKS, &mut all_links);
+    set(e, TABLE, &mut slots);
+    set(e, OUTPUTS, &mut entries);
+    let labels = first(&all_labels, e.labels);
+    let links = first(&all_links, e.links);
+    let table = first(&slots, e.table);
+    let outputs = first(&entries, e.outputs);
+    let lent = filled_bytes(&mut bytes, e.bytes);
+    let number = call(e, stores, labels, links, table, outputs, lent);
+    is_right(e, stores, number, labels, links, table, outputs, lent)
 }
 
 // A row that is asked for, the number that its check has to answer, and where in the picture the row begins.
@@ -413,7 +394,7 @@ fn row_at(k: u64) -> RowEdge {
 // Asks for a row, and answers whether it went right: its bytes are filled ones, from the right place on.
 fn ask(r: RowEdge) -> bool {
     let mut bytes = [0u8; 25];
-    fill_bytes(&mut bytes);
+    filled_bytes(&mut bytes, 25);
     let picture = part(&bytes, 0, r.bytes);
     let given = container::row(r.w, r.h, picture, r.y);
     let number = container::row_check(r.w, r.h, picture, r.y);

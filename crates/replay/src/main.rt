@@ -22,23 +22,20 @@ fn print_replayed(r: cases::Replayed) {
     print_counts(r.differ, b" differ, ", r.left, b" bytes left over\n");
 }
 
-// Writes how many calls were made, and how many went wrong.
-fn print_tried(calls: u64, words: &[u8], wrong: u64) {
-    print_counts(calls, words, wrong, b" wrong\n");
-}
-
 // The window holds more than the longest case.
 fn main() {
-    let mut window = [0u8; 131072];
+    let mut window = [0u8; 81920];
     print_replayed(cases::replay(&mut window));
-    print_tried(
+    print_counts(
         refusals::CALLS,
         b" runs at the edges of the refusals, ",
         refusals::all(&window),
+        b" wrong\n",
     );
-    print_tried(
+    print_counts(
         edges::CALLS,
         b" pictures, rows and sheets at the edges of the refusals, ",
         edges::all(),
+        b" wrong\n",
     );
 }

@@ -72,20 +72,15 @@ pub(crate) fn part(s: &[u8], from: usize, to: usize) -> &[u8] {
     &s[a..e]
 }
 
-// What the window holds is its first `have` bytes; those before `at` have been read. `ended`: standard input has no more.
+// What the window holds is its first `have` bytes; those before `at` have been read.
 pub struct Place {
     pub at: usize,
     pub have: usize,
-    pub ended: bool,
 }
 
 // Before anything is read.
 pub(crate) fn begin() -> Place {
-    Place {
-        at: 0,
-        have: 0,
-        ended: false,
-    }
+    Place { at: 0, have: 0 }
 }
 
 // How many bytes are left to be read.
@@ -113,24 +108,8 @@ fn move_down(s: &mut [u8], from: usize, end: usize) -> usize
     to
 }
 
-// Fills the window from a place on.
-fn read_on(window: &mut [u8], have: usize) -> Place {
-    if window.len() < have {
-        return begin();
-    }
-    let more = io::read_full(0, &mut window[have..]);
-    Place {
-        at: 0,
-        have: have + more,
-        ended: more < window.len() - have,
-    }
-}
-
 // Where fewer than `enough` bytes are left to be read, drops those that have been, and fills the window up.
 pub(crate) fn refill(window: &mut [u8], p: Place, enough: usize) -> Place {
-    if p.ended {
-        return p;
-    }
     if p.have < p.at {
         return p;
     }
@@ -138,5 +117,12 @@ pub(crate) fn refill(window: &mut [u8], p: Place, enough: usize) -> Place {
         return p;
     }
     let left = move_down(window, p.at, p.have);
-    read_on(window, left)
+    if window.len() < left {
+        return begin();
+    }
+    let more = io::read_full(0, &mut window[left..]);
+    Place {
+        at: 0,
+        have: left + more,
+    }
 }

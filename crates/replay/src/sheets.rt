@@ -41,67 +41,65 @@ pub(crate) fn is_picture(s: &[u8], at: usize, w: u32, h: u32, size: usize, pictu
     are_same(picture, part(s, at, after_pixels(s, at, size))) & are_rows(s, at, w, h, picture)
 }
 
-// The number at a place of buffer, or one that two bytes do not hold where it has no such place.
-fn number_at(buffer: &[u32], i: usize) -> u32 {
-    if i < buffer.len() {
-        buffer[i]
-    } else {
-        4294967295
-    }
-}
-
-// What number i of a stored sheet has to be.
-fn expected(
-    i: usize,
-    counts: [u32; 4],
-    labels: &[u32],
-    links: &[u32],
-    table: &[u32],
-    outputs: &[u32],
-) -> u32 {
-    if i < 4 {
-        return counts[i];
-    }
-    let p = i - 4;
-    if p / 2 < labels.len() {
-        return if p % 2 == 0 {
-            number_at(labels, p / 2)
-        } else {
-            number_at(links, p / 2)
-        };
-    }
-    let k = p - 2 * labels.len();
-    if k / 2 < table.len() / SLOT {
-        return number_at(table, SLOT * (k / 2) + k % 2);
-    }
-    number_at(outputs, k - 2 * (table.len() / SLOT))
-}
-
 // The number of two bytes.
 fn two_bytes(low: u8, high: u8) -> u32 {
     low as u32 + 256 * high as u32
 }
 
-// How many bytes a sheet with these buffers has.
-pub(crate) fn sheet_length(labels: &[u32], table: &[u32], outputs: &[u32]) -> usize {
-    8 + 4 * labels.len() + 4 * (table.len() / SLOT) + 2 * outputs.len()
+// Whether number `at` of a stored sheet is number i of a buffer.
+fn is_stored(sheet: &[u8], at: usize, buffer: &[u32], i: usize) -> bool {
+    if sheet.len() / 2 <= at {
+        return false;
+    }
+    if buffer.len() <= i {
+        return false;
+    }
+    two_bytes(sheet[2 * at], sheet[2 * at + 1]) == buffer[i]
 }
 
-// Whether a sheet with these counts is stored; labels, links, table and outputs are as long as the counts say.
+// Whether `count` numbers of a buffer are stored: each `stride` one from `from` on, as each `step` one of the sheet from `at` on.
+fn are_stored(
+    sheet: &[u8],
+    at: usize,
+    step: usize,
+    buffer: &[u32],
+    from: usize,
+    stride: usize,
+    count: usize,
+) -> bool {
+    let mut same = true;
+    let mut to = at;
+    let mut i = from;
+    let mut n = 0;
+    while n < count {
+        same = same & is_stored(sheet, to, buffer, i);
+        to = std::num::wrapping_add_usize(to, step);
+        i = std::num::wrapping_add_usize(i, stride);
+        n += 1;
+    }
+    same
+}
+
+// Whether a sheet with these counts is stored, with labels as long as they say: the counts; label and link of each pixel; first
+// pixel and count of each slot; the outputs.
 pub(crate) fn is_sheet(
     sheet: &[u8],
-    counts: [u32; 4],
+    w: u32,
+    h: u32,
+    n: u32,
+    m: u32,
     labels: &[u32],
     links: &[u32],
     table: &[u32],
     outputs: &[u32],
 ) -> bool {
-    let mut same = sheet.len() == sheet_length(labels, table, outputs);
-    let mut i = 0;
-    while i < sheet.len() / 2 {
-        let number = expected(i, counts, labels, links, table, outputs);
-        same = same & (two_bytes(sheet[2 * i], sheet[2 * i + 1]) == number);
-        i += 1;
-    }
-    same
+    let counts = [w, h, n, m];
+    let slots = 4 + 2 * labels.len();
+    let outs = slots + 2 * (n as usize);
+    are_stored(sheet, 0, 1, &counts, 0, 1, 4)
+        & are_stored(sheet, 4, 2, labels, 0, 1, labels.len())
+        & are_stored(sheet, 5, 2, links, 0, 1, labels.len())
+        & are_stored(sheet, slots, 2, table, 0, SLOT, n as usize)
+        & are_stored(sheet, slots + 1, 2, table, 1, SLOT, n as usize)
+        & are_stored(sheet, outs, 1, outputs, 0, 1, m as usize)
 }

@@ -3,7 +3,10 @@ use crate::buffers::Compared;
 use crate::buffers::filled;
 use crate::buffers::filled_bytes;
 use crate::buffers::first;
-use crate::cases::compare_left;
+use crate::cases::compare_answer;
+use crate::cases::is_kept;
+use crate::cases::is_painted;
+use crate::cases::is_shown;
 use crate::reading::part;
 use crate::refusals::is_right;
 use color_clusters::Answer;
@@ -64,7 +67,7 @@ fn call(
     color_clusters::run(o, w, h, image, labels, links, table, outputs, work)
 }
 
-// Compares what a call answered and left with what it has to.
+// Compares what a call answered and left with what it has to. From what a recorded run left, paints and stores too, and compares that.
 fn judge(
     s: &[u8],
     t: Trial,
@@ -76,13 +79,18 @@ fn judge(
     work: &[u32],
     picture: &[u8],
 ) -> Compared {
-    if t.recorded {
-        return compare_left(s, t, a, labels, links, table, outputs, work, picture);
+    if !t.recorded {
+        return Compared {
+            same: is_right(t, a, labels, links, table, outputs, work, picture),
+            at: t.to,
+        };
     }
-    Compared {
-        same: is_right(t, a, labels, links, table, outputs, work, picture),
-        at: t.to,
-    }
+    let c = compare_answer(s, t, a, labels, links, table, outputs, work);
+    let same = c.same
+        & is_shown(s, c.at, t, picture)
+        & is_painted(s, c.at, t, a, links, table, outputs)
+        & is_kept(t, a, labels, links, table, outputs);
+    Compared { same, at: c.at }
 }
 
 // Makes a call, and compares. Each buffer has two numbers more than the largest image asks for.
