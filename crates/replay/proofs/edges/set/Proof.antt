@@ -20,4 +20,4 @@ loop-again : tie.Need-loop-again Inv-loop μ-loop
 loop-again c = simp length-set (omega arith)
 
 pub set-spec : {M : Type 1} → statement M
-set-spec = tie.close (tie.spec Inv-loop μ-loop (search needs) (search needs) (search needs) (search needs) (search needs) loop-less loop-again (search needs) (search needs))
+set-spec = tie.close (tie.spec Inv-loop μ-loop (λ c. omega arith) (search needs) (λ c. omega arith) (λ c. omega arith) (λ c. omega arith) loop-less loop-again (search needs) (search needs))
