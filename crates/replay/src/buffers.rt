@@ -1,27 +1,13 @@
 // What the lent buffers hold before a call, and what they have to hold after it.
 use crate::reading;
-use runner::Answer;
-use runner::RunnerConfig;
 
-// The first n numbers of buffer, or all of it where it is shorter.
-pub fn cut(buffer: &mut [u32], n: usize) -> &mut [u32] {
-    let k = reading::least(n, buffer.len());
-    &mut buffer[0..k]
-}
-
-// The first n numbers of buffer, to be read.
-pub fn first(buffer: &[u32], n: usize) -> &[u32] {
+// The first n numbers of buffer, or all of it where it is shorter, to be read.
+pub(crate) fn first(buffer: &[u32], n: usize) -> &[u32] {
     &buffer[0..reading::least(n, buffer.len())]
 }
 
-// The first n bytes of buffer, or all of it where it is shorter.
-pub fn cut_bytes(buffer: &mut [u8], n: usize) -> &mut [u8] {
-    let k = reading::least(n, buffer.len());
-    &mut buffer[0..k]
-}
-
 // One more, where it is to be counted.
-pub fn count(sum: u64, more: bool) -> u64 {
+pub(crate) fn count(sum: u64, more: bool) -> u64 {
     if more {
         std::num::wrapping_add_u64(sum, 1)
     } else {
@@ -34,13 +20,15 @@ fn pattern(i: usize) -> u32 {
     (i % 1000000) as u32 + 3000000000
 }
 
-// Puts the pattern into all of buffer.
-fn fill(buffer: &mut [u32]) {
+// The first n numbers of buffer, or all of it where it is shorter, with the pattern in them.
+pub(crate) fn filled(buffer: &mut [u32], n: usize) -> &mut [u32] {
+    let k = reading::least(n, buffer.len());
     let mut i = 0;
-    while i < buffer.len() {
+    while i < k {
         buffer[i] = pattern(i);
         i += 1;
     }
+    &mut buffer[0..k]
 }
 
 // What stands at a place of a picture or of a destination before a call.
@@ -48,17 +36,19 @@ fn byte_pattern(i: usize) -> u8 {
     (i % 251) as u8
 }
 
-// Puts that into all of buffer.
-pub fn fill_bytes(buffer: &mut [u8]) {
+// The first n bytes of buffer, or all of it where it is shorter, with that in them.
+pub(crate) fn filled_bytes(buffer: &mut [u8], n: usize) -> &mut [u8] {
+    let k = reading::least(n, buffer.len());
     let mut i = 0;
-    while i < buffer.len() {
+    while i < k {
         buffer[i] = byte_pattern(i);
         i += 1;
     }
+    &mut buffer[0..k]
 }
 
 // Whether bytes are those that stand from a place on before a call.
-pub fn are_filled(bytes: &[u8], from: usize) -> bool {
+pub(crate) fn are_filled(bytes: &[u8], from: usize) -> bool {
     let mut i = 0;
     while i < bytes.len() {
         if bytes[i] != byte_pattern(std::num::wrapping_add_usize(from, i)) {
@@ -69,57 +59,8 @@ pub fn are_filled(bytes: &[u8], from: usize) -> bool {
     true
 }
 
-// Puts the pattern into every buffer.
-fn fill_all(
-    labels: &mut [u32],
-    links: &mut [u32],
-    table: &mut [u32],
-    outputs: &mut [u32],
-    work: &mut [u32],
-) {
-    fill(labels);
-    fill(links);
-    fill(table);
-    fill(outputs);
-    fill(work);
-}
-
-// Runs in buffers that are filled with the pattern.
-pub fn run_filled(
-    o: RunnerConfig,
-    w: u32,
-    h: u32,
-    image: &[u8],
-    labels: &mut [u32],
-    links: &mut [u32],
-    table: &mut [u32],
-    outputs: &mut [u32],
-    work: &mut [u32],
-) -> Answer {
-    fill_all(labels, links, table, outputs, work);
-    runner::run(o, w, h, image, labels, links, table, outputs, work)
-}
-
-// Runs and paints in buffers that are filled with the pattern.
-pub fn run_and_paint_filled(
-    o: RunnerConfig,
-    w: u32,
-    h: u32,
-    image: &[u8],
-    labels: &mut [u32],
-    links: &mut [u32],
-    table: &mut [u32],
-    outputs: &mut [u32],
-    work: &mut [u32],
-    picture: &mut [u8],
-) -> Answer {
-    fill_all(labels, links, table, outputs, work);
-    fill_bytes(picture);
-    color_clusters::run_and_paint(o, w, h, image, labels, links, table, outputs, work, picture)
-}
-
 // Whether buffer holds the pattern from a place on.
-pub fn is_untouched(buffer: &[u32], from: usize) -> bool {
+pub(crate) fn is_untouched(buffer: &[u32], from: usize) -> bool {
     let mut i = from;
     while i < buffer.len() {
         if buffer[i] != pattern(i) {
@@ -131,7 +72,7 @@ pub fn is_untouched(buffer: &[u32], from: usize) -> bool {
 }
 
 // Whether buffer holds zeros alone.
-pub fn is_zero(buffer: &[u32]) -> bool {
+pub(crate) fn is_zero(buffer: &[u32]) -> bool {
     let mut i = 0;
     while i < buffer.len() {
         if buffer[i] != 0 {
@@ -149,7 +90,7 @@ pub struct Compared {
 }
 
 // Compares the first n numbers of buffer with the numbers recorded at c, and the rest of it with the pattern.
-pub fn compare(s: &[u8], c: Compared, buffer: &[u32], n: usize) -> Compared {
+pub(crate) fn compare(s: &[u8], c: Compared, buffer: &[u32], n: usize) -> Compared {
     if buffer.len() < n {
         return Compared {
             same: false,

@@ -1,14 +1,11 @@
 // The recorded cases: each is run, painted and stored, and compared.
 use crate::buffers::Compared;
+use crate::buffers::are_filled;
 use crate::buffers::compare;
 use crate::buffers::count;
-use crate::buffers::cut;
-use crate::buffers::cut_bytes;
-use crate::buffers::fill_bytes;
+use crate::buffers::filled_bytes;
 use crate::buffers::first;
 use crate::buffers::is_zero;
-use crate::buffers::run_and_paint_filled;
-use crate::buffers::run_filled;
 use crate::reading::Place;
 use crate::reading::after_pixels;
 use crate::reading::begin;
@@ -19,21 +16,23 @@ use crate::reading::part;
 use crate::reading::past;
 use crate::reading::refill;
 use crate::reading::signed;
+use crate::sheets::SLOT;
 use crate::sheets::is_picture;
 use crate::sheets::is_sheet;
+use crate::trials;
+use crate::trials::LARGEST;
+use crate::trials::PICTURE;
+use crate::trials::Trial;
 use color::Color;
 use runner::Answer;
 use runner::KeyingAction;
 use runner::RunnerConfig;
 
-// The largest image that is replayed, in pixels.
-const LARGEST: usize = 2400;
+// At most so many bytes has the stored sheet of an image.
+const SHEET: usize = 28812;
 
 // No case has more bytes.
-const LONGEST: usize = 98304;
-
-// How many numbers a slot of the table has.
-const SLOT: usize = 21;
+const LONGEST: usize = 69632;
 
 // How many numbers more than a call asks for each buffer has. A run has to leave them alone.
 const MARGIN: usize = 2;
@@ -103,24 +102,24 @@ fn settings_at(s: &[u8], at: usize) -> Settings {
 
 // The number of pixels.
 fn area(w: u32, h: u32) -> usize {
-    w as usize * h as usize
+    image::area(w, h) as usize
 }
 
 // Compares what a run answered and left in the buffers with what is recorded at a place.
-fn compare_answer(
+pub(crate) fn compare_answer(
     s: &[u8],
-    at: usize,
-    size: usize,
-    answer: Answer,
+    t: Trial,
+    a: Answer,
     labels: &[u32],
     links: &[u32],
     table: &[u32],
     outputs: &[u32],
     work: &[u32],
 ) -> Compared {
-    let n = number(s, at);
+    let size = area(t.w, t.h);
+    let n = number(s, t.to);
     let m = number(s, n.at);
-    let same = (answer.number == 0) & (answer.n == n.value) & (answer.m == m.value) & is_zero(work);
+    let same = (a.number == 0) & (a.n == n.value) & (a.m == m.value) & is_zero(work);
     let c0 = Compared { same, at: m.at };
     let c1 = compare(s, c0, labels, size);
     let c2 = compare(s, c1, links, size);
@@ -128,220 +127,50 @@ fn compare_answer(
     compare(s, c3, outputs, m.value as usize)
 }
 
+// Whether the picture is the recorded one where the run painted it, and as it was where not.
+pub(crate) fn is_shown(s: &[u8], at: usize, t: Trial, picture: &[u8]) -> bool {
+    if t.paints {
+        return is_picture(s, at, t.w, t.h, area(t.w, t.h), picture);
+    }
+    are_filled(picture, 0)
+}
+
 // Whether painting from the buffers of a run gives the picture that is recorded at a place.
-fn is_painted(
+pub(crate) fn is_painted(
     s: &[u8],
     at: usize,
-    case: Case,
+    t: Trial,
     a: Answer,
     links: &[u32],
     table: &[u32],
     outputs: &[u32],
-    picture: &mut [u8],
 ) -> bool {
-    fill_bytes(picture);
-    let number = container::to_color_image(
-        case.w,
-        case.h,
-        links,
-        table,
-        outputs,
-        picture,
-        a.n,
-        a.m,
-    );
-    (number == 0) & is_picture(s, at, case.w, case.h, area(case.w, case.h), picture)
+    let mut bytes = [0u8; PICTURE];
+    let picture = filled_bytes(&mut bytes, t.picture);
+    let number = container::to_color_image(t.w, t.h, links, table, outputs, picture, a.n, a.m);
+    (number == 0) & is_picture(s, at, t.w, t.h, area(t.w, t.h), picture)
 }
 
 // Whether storing from the buffers of a run gives their numbers.
-fn is_kept(
-    case: Case,
+pub(crate) fn is_kept(
+    t: Trial,
     a: Answer,
     labels: &[u32],
     links: &[u32],
     table: &[u32],
     outputs: &[u32],
-    destination: &mut [u8],
 ) -> bool {
-    let size = area(case.w, case.h);
-    let pixels = first(labels, size);
-    let after = first(links, size);
-    let slots = first(table, SLOT * (a.n as usize));
-    let entries = first(outputs, a.m as usize);
-    let length = 8 + 4 * pixels.len() + 4 * (slots.len() / SLOT) + 2 * entries.len();
-    let sheet = cut_bytes(destination, length);
-    fill_bytes(sheet);
-    let number = sheet::store(
-        case.w,
-        case.h,
-        labels,
-        links,
-        table,
-        outputs,
-        sheet,
-        a.n,
-        a.m,
-    );
-    (number == 0)
-        & is_sheet(
-            sheet,
-            case.w,
-            case.h,
-            a.n,
-            a.m,
-            pixels,
-            after,
-            slots,
-            entries,
-        )
+    let pixels = first(labels, area(t.w, t.h));
+    let length = 8 + 4 * pixels.len() + 4 * (a.n as usize) + 2 * (a.m as usize);
+    let mut bytes = [0u8; SHEET];
+    let sheet = filled_bytes(&mut bytes, length);
+    let number = sheet::store(t.w, t.h, labels, links, table, outputs, sheet, a.n, a.m);
+    (number == 0) & is_sheet(sheet, t.w, t.h, a.n, a.m, pixels, links, table, outputs)
 }
 
-// A recorded case: its image is the bytes from `from` to `to`, and its answer begins there.
-struct Case {
-    o: RunnerConfig,
-    w: u32,
-    h: u32,
-    from: usize,
-    to: usize,
-}
-
-// Compares what a run left, paints and stores from it, and compares that too.
-fn compare_buffers(
-    s: &[u8],
-    case: Case,
-    a: Answer,
-    labels: &[u32],
-    links: &[u32],
-    table: &[u32],
-    outputs: &[u32],
-    work: &[u32],
-    picture: &mut [u8],
-    destination: &mut [u8],
-) -> Compared {
-    let size = area(case.w, case.h);
-    let c = compare_answer(s, case.to, size, a, labels, links, table, outputs, work);
-    let painted = is_painted(s, c.at, case, a, links, table, outputs, picture);
-    let kept = is_kept(case, a, labels, links, table, outputs, destination);
-    Compared {
-        same: c.same & painted & kept,
-        at: c.at,
-    }
-}
-
-// Runs a case and compares.
-fn run_and_compare(
-    s: &[u8],
-    case: Case,
-    labels: &mut [u32],
-    links: &mut [u32],
-    table: &mut [u32],
-    outputs: &mut [u32],
-    work: &mut [u32],
-    picture: &mut [u8],
-    destination: &mut [u8],
-) -> Compared {
-    let o = case.o;
-    let image = part(s, case.from, case.to);
-    let a = run_filled(
-        o,
-        case.w,
-        case.h,
-        image,
-        labels,
-        links,
-        table,
-        outputs,
-        work,
-    );
-    compare_buffers(
-        s,
-        case,
-        a,
-        labels,
-        links,
-        table,
-        outputs,
-        work,
-        picture,
-        destination,
-    )
-}
-
-// Runs and paints a case in one call, and compares. What is recorded of it ends with the picture.
-fn run_and_paint_and_compare(
-    s: &[u8],
-    case: Case,
-    labels: &mut [u32],
-    links: &mut [u32],
-    table: &mut [u32],
-    outputs: &mut [u32],
-    work: &mut [u32],
-    picture: &mut [u8],
-) -> Compared {
-    let o = case.o;
-    let image = part(s, case.from, case.to);
-    let a = run_and_paint_filled(
-        o,
-        case.w,
-        case.h,
-        image,
-        labels,
-        links,
-        table,
-        outputs,
-        work,
-        picture,
-    );
-    let size = area(case.w, case.h);
-    let c = compare_answer(s, case.to, size, a, labels, links, table, outputs, work);
-    Compared {
-        same: c.same & is_picture(s, c.at, case.w, case.h, size, picture),
-        at: after_pixels(s, c.at, size),
-    }
-}
-
-// Makes every call of a case in buffers of its size.
-fn compare_case(
-    s: &[u8],
-    case: Case,
-    labels: &mut [u32],
-    links: &mut [u32],
-    table: &mut [u32],
-    outputs: &mut [u32],
-    work: &mut [u32],
-    picture: &mut [u8],
-    destination: &mut [u8],
-) -> Compared {
-    let ran = run_and_compare(
-        s,
-        case,
-        labels,
-        links,
-        table,
-        outputs,
-        work,
-        picture,
-        destination,
-    );
-    let painted = run_and_paint_and_compare(s, case, labels, links, table, outputs, work, picture);
-    Compared {
-        same: ran.same & painted.same,
-        at: painted.at,
-    }
-}
-
-// Replays the case at a place. One that is too large or not whole ends past s.
-fn replay_case(
-    s: &[u8],
-    at: usize,
-    labels: &mut [u32],
-    links: &mut [u32],
-    table: &mut [u32],
-    outputs: &mut [u32],
-    work: &mut [u32],
-    picture: &mut [u8],
-    destination: &mut [u8],
-) -> Compared {
+// Replays the case at a place, by `run` and by `run_and_paint`. What is recorded of it ends with the picture. One that is too large or not
+// whole ends past s.
+fn replay_case(s: &[u8], at: usize) -> Compared {
     let settings = settings_at(s, at);
     let o = settings.o;
     let w = number(s, settings.at);
@@ -353,24 +182,29 @@ fn replay_case(
             at: past(s),
         };
     }
-    let case = Case {
+    let mut t = Trial {
         o,
         w: w.value,
         h: h.value,
         from: h.at,
         to: after_pixels(s, h.at, size),
+        paints: false,
+        labels: size + MARGIN,
+        links: size + MARGIN,
+        table: SLOT * (size + 1) + MARGIN,
+        outputs: 2 * size + MARGIN,
+        work: 8 * size + 8 + MARGIN,
+        picture: 4 * size,
+        recorded: true,
+        number: 0,
     };
-    compare_case(
-        s,
-        case,
-        cut(labels, size + MARGIN),
-        cut(links, size + MARGIN),
-        cut(table, SLOT * (size + 1) + MARGIN),
-        cut(outputs, 2 * size + MARGIN),
-        cut(work, 8 * size + 8 + MARGIN),
-        cut_bytes(picture, 4 * size),
-        destination,
-    )
+    let ran = trials::make(s, t);
+    t.paints = true;
+    let painted = trials::make(s, t);
+    Compared {
+        same: ran.same & painted.same,
+        at: after_pixels(s, painted.at, size),
+    }
 }
 
 // How far a replay has come: the place, the cases that were not run, and those that differ.
@@ -381,39 +215,17 @@ struct Progress {
 }
 
 // Replays the next case. After one that was not run, none is.
-fn step(
-    window: &mut [u8],
-    r: Progress,
-    labels: &mut [u32],
-    links: &mut [u32],
-    table: &mut [u32],
-    outputs: &mut [u32],
-    work: &mut [u32],
-    picture: &mut [u8],
-    destination: &mut [u8],
-) -> Progress {
+fn step(window: &mut [u8], r: Progress) -> Progress {
     let before = r.place;
     let p = refill(window, before, LONGEST);
-    let s = part(window, 0, p.have);
-    let c = replay_case(
-        s,
-        p.at,
-        labels,
-        links,
-        table,
-        outputs,
-        work,
-        picture,
-        destination,
-    );
+    let c = replay_case(part(window, 0, p.have), p.at);
     let ran = c.at <= p.have;
-    let next = Place {
+    let place = Place {
         at: c.at,
         have: p.have,
-        ended: p.ended,
     };
     Progress {
-        place: next,
+        place,
         skipped: count(r.skipped, !ran),
         differ: count(r.differ, ran & !c.same),
     }
@@ -428,23 +240,13 @@ pub struct Replayed {
 }
 
 // Replays all cases.
-pub fn replay(
-    window: &mut [u8],
-    labels: &mut [u32],
-    links: &mut [u32],
-    table: &mut [u32],
-    outputs: &mut [u32],
-    work: &mut [u32],
-    picture: &mut [u8],
-    destination: &mut [u8],
-) -> Replayed {
+pub(crate) fn replay(window: &mut [u8]) -> Replayed {
     let start = refill(window, begin(), LONGEST);
     let first = number(window, start.at);
     let cases = first.value;
     let place = Place {
         at: first.at,
         have: start.have,
-        ended: start.ended,
     };
     let mut r = Progress {
         place,
@@ -453,17 +255,7 @@ pub fn replay(
     };
     let mut i = 0;
     while i < cases {
-        r = step(
-            window,
-            r,
-            labels,
-            links,
-            table,
-            outputs,
-            work,
-            picture,
-            destination,
-        );
+        r = step(window, r);
         i += 1;
     }
     let last = r.place;

@@ -1,11 +1,9 @@
 // Painting, rows and storing at the edges of their refusals, from buffers that no run made: the number, and that a refused call changes nothing.
 use crate::buffers::are_filled;
 use crate::buffers::count;
-use crate::buffers::cut;
-use crate::buffers::cut_bytes;
-use crate::buffers::fill_bytes;
+use crate::buffers::filled_bytes;
 use crate::buffers::first;
-use crate::refusals::Tried;
+use crate::reading::part;
 use crate::sheets::is_sheet;
 
 // Which buffer a change is made in.
@@ -56,8 +54,8 @@ struct Edge {
     painted: usize,
 }
 
-// 3 × 2 pixels, all in the cluster of slot 1, which is put out twice; lent exactly what they ask for.
-fn whole(bytes: usize) -> Edge {
+// 3 × 2 pixels, all in the cluster of slot 1, which is put out twice; lent what they ask for and these bytes, with this number to answer.
+fn whole(bytes: usize, number: u32) -> Edge {
     Edge {
         w: 3,
         h: 2,
@@ -74,34 +72,37 @@ fn whole(bytes: usize) -> Edge {
         buffer_2: NONE,
         at_2: 0,
         value_2: 0,
-        number: 0,
+        number,
         painted: 6,
     }
 }
 
-// With this number to answer.
-fn answers(e: Edge, number: u32) -> Edge {
-    let mut e = e;
-    e.number = number;
-    e
-}
-
-fn sized(e: Edge, w: u32, h: u32) -> Edge {
-    let mut e = e;
+// The same of w × h pixels.
+fn sized(bytes: usize, w: u32, h: u32, number: u32) -> Edge {
+    let mut e = whole(bytes, number);
     e.w = w;
     e.h = h;
     e
 }
 
-fn counted(e: Edge, n: u32, m: u32) -> Edge {
-    let mut e = e;
+// The same with n slots and m outputs.
+fn counted(bytes: usize, n: u32, m: u32, number: u32) -> Edge {
+    let mut e = whole(bytes, number);
     e.n = n;
     e.m = m;
     e
 }
 
-fn lengths(e: Edge, labels: usize, links: usize, table: usize, outputs: usize) -> Edge {
-    let mut e = e;
+// The same with buffers of these lengths.
+fn lengths(
+    bytes: usize,
+    labels: usize,
+    links: usize,
+    table: usize,
+    outputs: usize,
+    number: u32,
+) -> Edge {
+    let mut e = whole(bytes, number);
     e.labels = labels;
     e.links = links;
     e.table = table;
@@ -109,18 +110,25 @@ fn lengths(e: Edge, labels: usize, links: usize, table: usize, outputs: usize) -
     e
 }
 
-// With a number changed, before the one that is changed already.
-fn changed(e: Edge, buffer: u32, at: usize, value: u32) -> Edge {
-    let mut e = e;
-    e.buffer_2 = e.buffer;
-    e.at_2 = e.at;
-    e.value_2 = e.value;
+// The same with a number changed.
+fn changed(bytes: usize, buffer: u32, at: usize, value: u32, number: u32) -> Edge {
+    let mut e = whole(bytes, number);
     e.buffer = buffer;
     e.at = at;
     e.value = value;
     e
 }
 
+// A call with one more number changed.
+fn also(e: Edge, buffer: u32, at: usize, value: u32) -> Edge {
+    let mut e = e;
+    e.buffer_2 = buffer;
+    e.at_2 = at;
+    e.value_2 = value;
+    e
+}
+
+// A call that paints so many pixels.
 fn paints(e: Edge, painted: usize) -> Edge {
     let mut e = e;
     e.painted = painted;
@@ -132,56 +140,51 @@ const PAINTS: u64 = 37;
 
 // Painting: each number where it first appears, the last call before it that is accepted, chains that no run makes, and several faults at once.
 fn paint_at(k: u64) -> Edge {
-    let e = whole(24);
     match k {
-        0 => e,
-        1 => answers(sized(e, 0, 2), 2),
-        2 => answers(sized(e, 3, 0), 2),
-        3 => answers(sized(e, 65001, 1), 3),
-        4 => answers(sized(e, 65000, 1), 5),
-        5 => answers(lengths(e, 6, 5, 147, 12), 5),
-        6 => answers(lengths(e, 6, 6, 146, 12), 5),
-        7 => answers(lengths(e, 6, 6, 147, 11), 5),
-        8 => lengths(e, 0, 7, 148, 13),
-        9 => counted(e, 7, 12),
-        10 => answers(counted(e, 8, 2), 5),
-        11 => answers(counted(e, 2, 13), 5),
-        12 => paints(counted(e, 0, 0), 0),
-        13 => answers(whole(23), 6),
-        14 => answers(whole(25), 6),
-        15 => answers(counted(whole(25), 8, 2), 5),
-        36 => answers(lengths(whole(0), 0, 0, 0, 0), 5),
+        0 => whole(24, 0),
+        1 => sized(24, 0, 2, 2),
+        2 => sized(24, 3, 0, 2),
+        3 => sized(24, 65001, 1, 3),
+        4 => sized(24, 65000, 1, 5),
+        5 => lengths(24, 6, 5, 147, 12, 5),
+        6 => lengths(24, 6, 6, 146, 12, 5),
+        7 => lengths(24, 6, 6, 147, 11, 5),
+        8 => lengths(24, 0, 7, 148, 13, 0),
+        9 => counted(24, 7, 12, 0),
+        10 => counted(24, 8, 2, 5),
+        11 => counted(24, 2, 13, 5),
+        12 => paints(counted(24, 0, 0, 0), 0),
+        13 => whole(23, 6),
+        14 => whole(25, 6),
+        15 => counted(25, 8, 2, 5),
+        36 => lengths(0, 0, 0, 0, 0, 5),
         _ => entry_at(k),
     }
 }
 
 // Painting, the calls whose entries are looked at.
 fn entry_at(k: u64) -> Edge {
-    let e = whole(24);
     match k {
-        16 => answers(counted(e, 1, 2), 8),
-        17 => answers(changed(e, OUTPUTS, 0, 2), 8),
-        18 => changed(e, OUTPUTS, 2, 2),
-        19 => answers(changed(e, OUTPUTS, 1, 4294967295), 8),
-        20 => answers(changed(e, TABLE, COLORS, 0), 9),
-        21 => answers(changed(e, TABLE, GREEN, 1531), 9),
-        22 => answers(changed(e, TABLE, ALPHA, 1531), 9),
-        23 => answers(changed(e, TABLE, COUNT, 7), 10),
-        24 => answers(changed(e, TABLE, FIRST, 0), 10),
-        25 => answers(changed(e, TABLE, FIRST, 7), 10),
-        26 => answers(changed(e, LINKS, 4, 0), 10),
-        27 => answers(changed(e, LINKS, 4, 7), 10),
-        28 => changed(e, LINKS, 5, 4294967295),
-        29 => paints(changed(e, LINKS, 1, 1), 2),
-        30 => paints(changed(changed(e, TABLE, FIRST, 0), TABLE, COUNT, 0), 0),
-        31 => answers(changed(changed(e, OUTPUTS, 0, 2), LINKS, 0, 0), 10),
-        32 => answers(changed(changed(e, OUTPUTS, 1, 2), LINKS, 0, 0), 8),
-        33 => answers(changed(changed(e, TABLE, COUNT, 7), TABLE, COLORS, 0), 9),
-        34 => answers(
-            changed(changed(whole(23), OUTPUTS, 1, 2), TABLE, RED, 1531),
-            6,
-        ),
-        _ => answers(changed(e, TABLE, COUNT, 4294967295), 10),
+        16 => counted(24, 1, 2, 8),
+        17 => changed(24, OUTPUTS, 0, 2, 8),
+        18 => changed(24, OUTPUTS, 2, 2, 0),
+        19 => changed(24, OUTPUTS, 1, 4294967295, 8),
+        20 => changed(24, TABLE, COLORS, 0, 9),
+        21 => changed(24, TABLE, GREEN, 1531, 9),
+        22 => changed(24, TABLE, ALPHA, 1531, 9),
+        23 => changed(24, TABLE, COUNT, 7, 10),
+        24 => changed(24, TABLE, FIRST, 0, 10),
+        25 => changed(24, TABLE, FIRST, 7, 10),
+        26 => changed(24, LINKS, 4, 0, 10),
+        27 => changed(24, LINKS, 4, 7, 10),
+        28 => changed(24, LINKS, 5, 4294967295, 0),
+        29 => paints(changed(24, LINKS, 1, 1, 0), 2),
+        30 => paints(also(changed(24, TABLE, FIRST, 0, 0), TABLE, COUNT, 0), 0),
+        31 => also(changed(24, OUTPUTS, 0, 2, 10), LINKS, 0, 0),
+        32 => also(changed(24, OUTPUTS, 1, 2, 8), LINKS, 0, 0),
+        33 => also(changed(24, TABLE, COUNT, 7, 9), TABLE, COLORS, 0),
+        34 => also(changed(23, OUTPUTS, 1, 2, 6), TABLE, RED, 1531),
+        _ => changed(24, TABLE, COUNT, 4294967295, 10),
     }
 }
 
@@ -190,180 +193,156 @@ const STORES: u64 = 25;
 
 // Storing, likewise.
 fn store_at(k: u64) -> Edge {
-    let e = whole(44);
     match k {
-        0 => e,
-        1 => answers(sized(e, 0, 2), 2),
-        2 => answers(sized(e, 65001, 1), 3),
-        3 => answers(lengths(e, 5, 6, 147, 12), 5),
-        4 => answers(lengths(e, 6, 5, 147, 12), 5),
-        5 => answers(lengths(e, 6, 6, 146, 12), 5),
-        6 => answers(lengths(e, 6, 6, 147, 11), 5),
-        7 => answers(counted(e, 8, 2), 5),
-        8 => answers(counted(e, 2, 13), 5),
-        9 => changed(e, LABELS, 5, 65535),
-        10 => answers(changed(e, LABELS, 5, 65536), 12),
-        11 => answers(changed(e, LINKS, 0, 65536), 12),
-        12 => answers(changed(e, TABLE, FIRST, 65536), 12),
-        13 => answers(changed(e, TABLE, COUNT, 65536), 12),
-        14 => answers(changed(e, OUTPUTS, 1, 65536), 12),
-        15 => changed(e, TABLE, RED, 65536),
-        16 => changed(e, TABLE, 42, 65536),
-        17 => changed(e, OUTPUTS, 2, 65536),
-        18 => changed(lengths(e, 7, 7, 148, 13), LABELS, 6, 65536),
-        19 => answers(whole(43), 13),
-        20 => answers(whole(45), 13),
-        21 => answers(changed(whole(43), LABELS, 0, 65536), 12),
-        22 => answers(
-            changed(lengths(whole(43), 5, 6, 147, 12), LABELS, 0, 65536),
-            5,
-        ),
-        23 => answers(counted(e, 1, 2), 13),
-        _ => answers(whole(0), 13),
+        0 => whole(44, 0),
+        1 => sized(44, 0, 2, 2),
+        2 => sized(44, 65001, 1, 3),
+        3 => lengths(44, 5, 6, 147, 12, 5),
+        4 => lengths(44, 6, 5, 147, 12, 5),
+        5 => lengths(44, 6, 6, 146, 12, 5),
+        6 => lengths(44, 6, 6, 147, 11, 5),
+        7 => counted(44, 8, 2, 5),
+        8 => counted(44, 2, 13, 5),
+        9 => changed(44, LABELS, 5, 65535, 0),
+        10 => changed(44, LABELS, 5, 65536, 12),
+        11 => changed(44, LINKS, 0, 65536, 12),
+        12 => changed(44, TABLE, FIRST, 65536, 12),
+        13 => changed(44, TABLE, COUNT, 65536, 12),
+        14 => changed(44, OUTPUTS, 1, 65536, 12),
+        15 => changed(44, TABLE, RED, 65536, 0),
+        16 => changed(44, TABLE, 42, 65536, 0),
+        17 => changed(44, OUTPUTS, 2, 65536, 0),
+        18 => also(lengths(44, 7, 7, 148, 13, 0), LABELS, 6, 65536),
+        19 => whole(43, 13),
+        20 => whole(45, 13),
+        21 => changed(43, LABELS, 0, 65536, 12),
+        22 => also(lengths(43, 5, 6, 147, 12, 5), LABELS, 0, 65536),
+        23 => counted(44, 1, 2, 13),
+        _ => whole(0, 13),
     }
 }
 
-// Puts a number where there is such a place.
-fn put(buffer: &mut [u32], at: usize, value: u32) {
-    if at < buffer.len() {
-        buffer[at] = value;
+// What stands at a place of a buffer before it is changed: the pixels are listed in their order, and slot 1 has all of them, with the
+// average (10, 255, 30, 255) for its residue.
+fn number_at(buffer: u32, i: usize) -> u32 {
+    if buffer == LINKS {
+        return if i < 5 { i as u32 + 2 } else { 0 };
+    }
+    if buffer != TABLE {
+        return 1;
+    }
+    match i {
+        FIRST => 1,
+        COUNT | COLORS => 6,
+        RED => 60,
+        GREEN | ALPHA => 1530,
+        BLUE => 180,
+        _ => 0,
     }
 }
 
-// Puts one number everywhere.
-fn set_all(buffer: &mut [u32], value: u32) {
+// The same of the sheet of a call.
+fn edge_number(e: Edge, buffer: u32, i: usize) -> u32 {
+    if (e.buffer == buffer) & (e.at == i) {
+        return e.value;
+    }
+    if (e.buffer_2 == buffer) & (e.at_2 == i) {
+        return e.value_2;
+    }
+    number_at(buffer, i)
+}
+
+// Puts the numbers of a call's sheet into one of its buffers.
+fn set(e: Edge, buffer: u32, numbers: &mut [u32]) {
     let mut i = 0;
-    while i < buffer.len() {
-        buffer[i] = value;
+    while i < numbers.len() {
+        numbers[i] = edge_number(e, buffer, i);
         i += 1;
     }
 }
 
-// Puts a number into one of the buffers.
-fn change(
-    labels: &mut [u32],
-    links: &mut [u32],
-    table: &mut [u32],
-    outputs: &mut [u32],
-    buffer: u32,
-    at: usize,
-    value: u32,
-) {
-    match buffer {
-        LABELS => put(labels, at, value),
-        LINKS => put(links, at, value),
-        TABLE => put(table, at, value),
-        OUTPUTS => put(outputs, at, value),
-        _ => (),
+// What stands at a place of the picture of the sheet, of which so many pixels are painted.
+fn color_at(i: usize, painted: usize) -> u8 {
+    if painted <= i / 4 {
+        return 0;
     }
-}
-
-// The pixels are listed in their order.
-fn set_links(links: &mut [u32]) {
-    set_all(links, 0);
-    put(links, 0, 2);
-    put(links, 1, 3);
-    put(links, 2, 4);
-    put(links, 3, 5);
-    put(links, 4, 6);
-}
-
-// Slot 1 has all pixels, and its residue's average is (10, 255, 30, 255).
-fn set_table(table: &mut [u32]) {
-    set_all(table, 0);
-    put(table, FIRST, 1);
-    put(table, COUNT, 6);
-    put(table, RED, 60);
-    put(table, GREEN, 1530);
-    put(table, BLUE, 180);
-    put(table, ALPHA, 1530);
-    put(table, COLORS, 6);
-}
-
-// Sets the sheet before it is changed.
-fn set_sheet(labels: &mut [u32], links: &mut [u32], table: &mut [u32], outputs: &mut [u32]) {
-    set_all(labels, 1);
-    set_links(links);
-    set_table(table);
-    set_all(outputs, 1);
-}
-
-// Sets the sheet of a call, and changes it.
-fn prepare(e: Edge, labels: &mut [u32], links: &mut [u32], table: &mut [u32], outputs: &mut [u32]) {
-    set_sheet(labels, links, table, outputs);
-    change(labels, links, table, outputs, e.buffer, e.at, e.value);
-    change(labels, links, table, outputs, e.buffer_2, e.at_2, e.value_2);
+    match i % 4 {
+        0 => 10,
+        2 => 30,
+        _ => 255,
+    }
 }
 
 // Whether the first pixels have the sheet's colour, and the others are zero.
 fn shows(picture: &[u8], painted: usize) -> bool {
-    let mut same = true;
-    let mut p = 0;
-    while p < picture.len() / 4 {
-        let i = 4 * p;
-        same = same
-            & if p < painted {
-                (picture[i] == 10)
-                    & (picture[i + 1] == 255)
-                    & (picture[i + 2] == 30)
-                    & (picture[i + 3] == 255)
-            } else {
-                (picture[i] == 0)
-                    & (picture[i + 1] == 0)
-                    & (picture[i + 2] == 0)
-                    & (picture[i + 3] == 0)
-            };
-        p += 1;
+    let mut i = 0;
+    while i < picture.len() {
+        if picture[i] != color_at(i, painted) {
+            return false;
+        }
+        i += 1;
     }
-    same
+    true
 }
 
-// Paints, and answers whether it went right.
-fn paint(e: Edge, links: &[u32], table: &[u32], outputs: &[u32], picture: &mut [u8]) -> bool {
-    fill_bytes(picture);
-    let number = container::to_color_image(e.w, e.h, links, table, outputs, picture, e.n, e.m);
-    if e.number != 0 {
-        return (number == e.number) & are_filled(picture, 0);
-    }
-    (number == 0) & shows(picture, e.painted)
-}
-
-// Stores, and answers whether it went right.
-fn store(
+// Stores or paints, and answers the number.
+fn call(
     e: Edge,
+    stores: bool,
     labels: &[u32],
     links: &[u32],
     table: &[u32],
     outputs: &[u32],
-    destination: &mut [u8],
-) -> bool {
-    fill_bytes(destination);
-    let number = sheet::store(
-        e.w,
-        e.h,
-        labels,
-        links,
-        table,
-        outputs,
-        destination,
-        e.n,
-        e.m,
-    );
-    if e.number != 0 {
-        return (number == e.number) & are_filled(destination, 0);
+    bytes: &mut [u8],
+) -> u32 {
+    if stores {
+        return sheet::store(e.w, e.h, labels, links, table, outputs, bytes, e.n, e.m);
     }
-    (number == 0)
-        & is_sheet(
-            destination,
-            e.w,
-            e.h,
-            e.n,
-            e.m,
-            first(labels, 6),
-            first(links, 6),
-            first(table, 42),
-            first(outputs, 2),
-        )
+    container::to_color_image(e.w, e.h, links, table, outputs, bytes, e.n, e.m)
+}
+
+// Whether a call went right by its number and the bytes that it left: as they were where it is refused, and else the sheet or its picture.
+fn is_right(
+    e: Edge,
+    stores: bool,
+    number: u32,
+    labels: &[u32],
+    links: &[u32],
+    table: &[u32],
+    outputs: &[u32],
+    bytes: &[u8],
+) -> bool {
+    if number != e.number {
+        return false;
+    }
+    if number != 0 {
+        return are_filled(bytes, 0);
+    }
+    if stores {
+        let pixels = first(labels, 6);
+        return is_sheet(bytes, e.w, e.h, e.n, e.m, pixels, links, table, outputs);
+    }
+    shows(bytes, e.painted)
+}
+
+// Sets the sheet of a call, makes it, and answers whether it went right.
+fn try_sheet(e: Edge, stores: bool) -> bool {
+    let mut all_labels = [0u32; 7];
+    let mut all_links = [0u32; 7];
+    let mut slots = [0u32; 148];
+    let mut entries = [0u32; 13];
+    let mut bytes = [0u8; 45];
+    set(e, LABELS, &mut all_labels);
+    set(e, LINKS, &mut all_links);
+    set(e, TABLE, &mut slots);
+    set(e, OUTPUTS, &mut entries);
+    let labels = first(&all_labels, e.labels);
+    let links = first(&all_links, e.links);
+    let table = first(&slots, e.table);
+    let outputs = first(&entries, e.outputs);
+    let lent = filled_bytes(&mut bytes, e.bytes);
+    let number = call(e, stores, labels, links, table, outputs, lent);
+    is_right(e, stores, number, labels, links, table, outputs, lent)
 }
 
 // A row that is asked for, the number that its check has to answer, and where in the picture the row begins.
@@ -413,8 +392,10 @@ fn row_at(k: u64) -> RowEdge {
 }
 
 // Asks for a row, and answers whether it went right: its bytes are filled ones, from the right place on.
-fn ask(r: RowEdge, picture: &mut [u8]) -> bool {
-    fill_bytes(picture);
+fn ask(r: RowEdge) -> bool {
+    let mut bytes = [0u8; 25];
+    filled_bytes(&mut bytes, 25);
+    let picture = part(&bytes, 0, r.bytes);
     let given = sheet::row(r.w, r.h, picture, r.y);
     let number = sheet::row_check(r.w, r.h, picture, r.y);
     if r.number != 0 {
@@ -423,131 +404,27 @@ fn ask(r: RowEdge, picture: &mut [u8]) -> bool {
     (number == 0) & (given.len() == 4 * (r.w as usize)) & are_filled(given, r.from)
 }
 
-// Sets the sheet of a call, and paints.
-fn try_paint(
-    e: Edge,
-    labels: &mut [u32],
-    links: &mut [u32],
-    table: &mut [u32],
-    outputs: &mut [u32],
-    picture: &mut [u8],
-) -> bool {
-    prepare(e, labels, links, table, outputs);
-    paint(e, links, table, outputs, picture)
+// Makes call k, and answers whether it went right.
+fn try_edge(k: u64) -> bool {
+    if k < PAINTS {
+        return try_sheet(paint_at(k), false);
+    }
+    if k < PAINTS + STORES {
+        return try_sheet(store_at(k - PAINTS), true);
+    }
+    ask(row_at(k - PAINTS - STORES))
 }
 
-// Sets the sheet of a call, and stores.
-fn try_store(
-    e: Edge,
-    labels: &mut [u32],
-    links: &mut [u32],
-    table: &mut [u32],
-    outputs: &mut [u32],
-    destination: &mut [u8],
-) -> bool {
-    prepare(e, labels, links, table, outputs);
-    store(e, labels, links, table, outputs, destination)
-}
+// How many calls are made.
+pub(crate) const CALLS: u64 = PAINTS + STORES + ROWS;
 
-// Cuts the buffers to the lengths of a call, and paints.
-fn paint_edge(
-    e: Edge,
-    labels: &mut [u32],
-    links: &mut [u32],
-    table: &mut [u32],
-    outputs: &mut [u32],
-    bytes: &mut [u8],
-) -> bool {
-    try_paint(
-        e,
-        cut(labels, e.labels),
-        cut(links, e.links),
-        cut(table, e.table),
-        cut(outputs, e.outputs),
-        cut_bytes(bytes, e.bytes),
-    )
-}
-
-// Cuts the buffers to the lengths of a call, and stores.
-fn store_edge(
-    e: Edge,
-    labels: &mut [u32],
-    links: &mut [u32],
-    table: &mut [u32],
-    outputs: &mut [u32],
-    bytes: &mut [u8],
-) -> bool {
-    try_store(
-        e,
-        cut(labels, e.labels),
-        cut(links, e.links),
-        cut(table, e.table),
-        cut(outputs, e.outputs),
-        cut_bytes(bytes, e.bytes),
-    )
-}
-
-// Makes every call of painting.
-fn all_paints(
-    labels: &mut [u32],
-    links: &mut [u32],
-    table: &mut [u32],
-    outputs: &mut [u32],
-    bytes: &mut [u8],
-) -> u64 {
+// Makes every call; answers how many went wrong.
+pub(crate) fn all() -> u64 {
     let mut wrong = 0;
     let mut k = 0;
-    while k < PAINTS {
-        let right = paint_edge(paint_at(k), labels, links, table, outputs, bytes);
-        wrong = count(wrong, !right);
+    while k < CALLS {
+        wrong = count(wrong, !try_edge(k));
         k += 1;
     }
     wrong
-}
-
-// Makes every call of storing.
-fn all_stores(
-    labels: &mut [u32],
-    links: &mut [u32],
-    table: &mut [u32],
-    outputs: &mut [u32],
-    bytes: &mut [u8],
-) -> u64 {
-    let mut wrong = 0;
-    let mut k = 0;
-    while k < STORES {
-        let right = store_edge(store_at(k), labels, links, table, outputs, bytes);
-        wrong = count(wrong, !right);
-        k += 1;
-    }
-    wrong
-}
-
-// Asks for every row.
-fn all_rows(bytes: &mut [u8]) -> u64 {
-    let mut wrong = 0;
-    let mut k = 0;
-    while k < ROWS {
-        let r = row_at(k);
-        wrong = count(wrong, !ask(r, cut_bytes(bytes, r.bytes)));
-        k += 1;
-    }
-    wrong
-}
-
-// Makes every call.
-pub fn all(
-    labels: &mut [u32],
-    links: &mut [u32],
-    table: &mut [u32],
-    outputs: &mut [u32],
-    bytes: &mut [u8],
-) -> Tried {
-    let paints = all_paints(labels, links, table, outputs, bytes);
-    let stores = all_stores(labels, links, table, outputs, bytes);
-    let wrong = std::num::wrapping_add_u64(paints, stores);
-    Tried {
-        calls: PAINTS + STORES + ROWS,
-        wrong: std::num::wrapping_add_u64(wrong, all_rows(bytes)),
-    }
 }

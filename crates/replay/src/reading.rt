@@ -9,12 +9,12 @@ pub struct Next {
 }
 
 // The place of what is read past the end of s. Reading on from there ends there too.
-pub fn past(s: &[u8]) -> usize {
+pub(crate) fn past(s: &[u8]) -> usize {
     s.len() + 1
 }
 
 // The place after four bytes for each of size pixels, from `from` on.
-pub fn after_pixels(s: &[u8], from: usize, size: usize) -> usize {
+pub(crate) fn after_pixels(s: &[u8], from: usize, size: usize) -> usize {
     if s.len() < from {
         return past(s);
     }
@@ -25,7 +25,7 @@ pub fn after_pixels(s: &[u8], from: usize, size: usize) -> usize {
 }
 
 // The unsigned LEB128 number that begins at from: seven bits a byte, the lowest first, five bytes at most.
-pub fn number(s: &[u8], from: usize) -> Next {
+pub(crate) fn number(s: &[u8], from: usize) -> Next {
     let mut at = from;
     let mut value: u32 = 0;
     let mut shift: u32 = 0;
@@ -45,7 +45,7 @@ pub fn number(s: &[u8], from: usize) -> Next {
 }
 
 // The number whose 32-bit two's complement is v.
-pub fn signed(v: u32) -> i32 {
+pub(crate) fn signed(v: u32) -> i32 {
     if v < 2147483648 {
         v as i32
     } else {
@@ -54,42 +54,37 @@ pub fn signed(v: u32) -> i32 {
 }
 
 // A channel of a colour; recorded ones are below 256.
-pub fn channel(v: u32) -> u8 {
+pub(crate) fn channel(v: u32) -> u8 {
     (v % 256) as u8
 }
 
 // The smaller of two.
-pub fn least(a: usize, b: usize) -> usize
+pub(crate) fn least(a: usize, b: usize) -> usize
     ensures { λ r. ⌜ (r ≤ a) × (r ≤ b) ⌝ }
 {
     if a < b { a } else { b }
 }
 
 // The bytes of s from a place to another, or those of them that s has.
-pub fn part(s: &[u8], from: usize, to: usize) -> &[u8] {
+pub(crate) fn part(s: &[u8], from: usize, to: usize) -> &[u8] {
     let e = least(to, s.len());
     let a = least(from, e);
     &s[a..e]
 }
 
-// What the window holds is its first `have` bytes; those before `at` have been read. `ended`: standard input has no more.
+// What the window holds is its first `have` bytes; those before `at` have been read.
 pub struct Place {
     pub at: usize,
     pub have: usize,
-    pub ended: bool,
 }
 
 // Before anything is read.
-pub fn begin() -> Place {
-    Place {
-        at: 0,
-        have: 0,
-        ended: false,
-    }
+pub(crate) fn begin() -> Place {
+    Place { at: 0, have: 0 }
 }
 
 // How many bytes are left to be read.
-pub fn left_over(p: Place) -> u64 {
+pub(crate) fn left_over(p: Place) -> u64 {
     if p.at < p.have {
         (p.have - p.at) as u64
     } else {
@@ -113,24 +108,8 @@ fn move_down(s: &mut [u8], from: usize, end: usize) -> usize
     to
 }
 
-// Fills the window from a place on.
-fn read_on(window: &mut [u8], have: usize) -> Place {
-    if window.len() < have {
-        return begin();
-    }
-    let more = io::read_full(0, &mut window[have..]);
-    Place {
-        at: 0,
-        have: have + more,
-        ended: more < window.len() - have,
-    }
-}
-
 // Where fewer than `enough` bytes are left to be read, drops those that have been, and fills the window up.
-pub fn refill(window: &mut [u8], p: Place, enough: usize) -> Place {
-    if p.ended {
-        return p;
-    }
+pub(crate) fn refill(window: &mut [u8], p: Place, enough: usize) -> Place {
     if p.have < p.at {
         return p;
     }
@@ -138,5 +117,12 @@ pub fn refill(window: &mut [u8], p: Place, enough: usize) -> Place {
         return p;
     }
     let left = move_down(window, p.at, p.have);
-    read_on(window, left)
+    if window.len() < left {
+        return begin();
+    }
+    let more = io::read_full(0, &mut window[left..]);
+    Place {
+        at: 0,
+        have: left + more,
+    }
 }

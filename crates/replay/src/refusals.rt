@@ -1,12 +1,9 @@
 // The refusals of `run` and `run_and_paint` at their edges: the number, and that a refused call changes nothing.
 use crate::buffers::are_filled;
 use crate::buffers::count;
-use crate::buffers::cut;
-use crate::buffers::cut_bytes;
 use crate::buffers::is_untouched;
-use crate::buffers::run_and_paint_filled;
-use crate::buffers::run_filled;
-use crate::reading::part;
+use crate::trials;
+use crate::trials::Trial;
 use color::Color;
 use runner::Answer;
 use runner::KeyingAction;
@@ -74,8 +71,8 @@ fn empty(shift: i32, w: u32, h: u32, number: u32) -> Edge {
     e
 }
 
-// How many calls `edge_at` has.
-const EDGES: u64 = 31;
+// How many calls are made: each of `edge_at` without a picture, and with one that is a byte too short, right, and a byte too long.
+pub(crate) const CALLS: u64 = 124;
 
 // Each number where it first appears, the last call before it that is accepted, and several faults at once.
 fn edge_at(k: u64) -> Edge {
@@ -136,20 +133,22 @@ fn settings(shift: i32) -> RunnerConfig {
     }
 }
 
-// Whether an answer has this number and, where it is a refusal, no counts, and every buffer is as it was filled.
-fn is_right(
-    number: u32,
+// Whether an answer has the number that it has to and, where that is a refusal, no counts, and every buffer is as it was filled. The
+// picture is so too, unless it was painted.
+pub(crate) fn is_right(
+    t: Trial,
     a: Answer,
     labels: &[u32],
     links: &[u32],
     table: &[u32],
     outputs: &[u32],
     work: &[u32],
+    picture: &[u8],
 ) -> bool {
-    if number == 0 {
-        return a.number == 0;
+    if t.number == 0 {
+        return (a.number == 0) & (t.paints | are_filled(picture, 0));
     }
-    (a.number == number)
+    (a.number == t.number)
         & (a.n == 0)
         & (a.m == 0)
         & is_untouched(labels, 0)
@@ -157,176 +156,40 @@ fn is_right(
         & is_untouched(table, 0)
         & is_untouched(outputs, 0)
         & is_untouched(work, 0)
+        & are_filled(picture, 0)
 }
 
-// Runs, and answers whether it went right.
-fn call(
-    e: Edge,
-    image: &[u8],
-    labels: &mut [u32],
-    links: &mut [u32],
-    table: &mut [u32],
-    outputs: &mut [u32],
-    work: &mut [u32],
-) -> bool {
+// The call of an edge, without a picture where kind is 0, and else with one of 22 + kind bytes: of another length than 3 × 2 ask for, it has
+// to answer 6 where nothing comes before that.
+fn trial(e: Edge, kind: usize) -> Trial {
     let o = settings(e.shift);
-    let a = run_filled(o, e.w, e.h, image, labels, links, table, outputs, work);
-    is_right(e.number, a, labels, links, table, outputs, work)
-}
-
-// Runs and paints, and answers whether it went right: with a picture of another length than 3 × 2 ask for, 6 where nothing comes before it.
-fn call_and_paint(
-    e: Edge,
-    image: &[u8],
-    labels: &mut [u32],
-    links: &mut [u32],
-    table: &mut [u32],
-    outputs: &mut [u32],
-    work: &mut [u32],
-    picture: &mut [u8],
-) -> bool {
-    let o = settings(e.shift);
-    let a = run_and_paint_filled(
+    let short = (e.number == 0) & (kind % 2 == 1);
+    Trial {
         o,
-        e.w,
-        e.h,
-        image,
-        labels,
-        links,
-        table,
-        outputs,
-        work,
-        picture,
-    );
-    let number = if (e.number == 0) & (picture.len() != 24) {
-        6
-    } else {
-        e.number
-    };
-    is_right(number, a, labels, links, table, outputs, work)
-        & ((number == 0) | are_filled(picture, 0))
-}
-
-// Runs with a picture of n bytes.
-fn with_picture(
-    e: Edge,
-    image: &[u8],
-    labels: &mut [u32],
-    links: &mut [u32],
-    table: &mut [u32],
-    outputs: &mut [u32],
-    work: &mut [u32],
-    picture: &mut [u8],
-    n: usize,
-) -> bool {
-    call_and_paint(
-        e,
-        image,
-        labels,
-        links,
-        table,
-        outputs,
-        work,
-        cut_bytes(picture, n),
-    )
-}
-
-// Runs with pictures one byte too short, of the right length, and one byte too long; answers how often it went wrong.
-fn try_pictures(
-    e: Edge,
-    image: &[u8],
-    labels: &mut [u32],
-    links: &mut [u32],
-    table: &mut [u32],
-    outputs: &mut [u32],
-    work: &mut [u32],
-    picture: &mut [u8],
-) -> u64 {
-    let mut wrong = 0;
-    let mut n = 23;
-    while n < 26 {
-        let right = with_picture(e, image, labels, links, table, outputs, work, picture, n);
-        wrong = count(wrong, !right);
-        n += 1;
+        w: e.w,
+        h: e.h,
+        from: 0,
+        to: e.image,
+        paints: kind != 0,
+        labels: e.labels,
+        links: e.links,
+        table: e.table,
+        outputs: e.outputs,
+        work: e.work,
+        picture: 22 + kind % 4,
+        recorded: false,
+        number: if short { 6 } else { e.number },
     }
-    wrong
 }
 
-// Makes the calls of an edge, without a picture and with one.
-fn try_cut(
-    e: Edge,
-    image: &[u8],
-    labels: &mut [u32],
-    links: &mut [u32],
-    table: &mut [u32],
-    outputs: &mut [u32],
-    work: &mut [u32],
-    picture: &mut [u8],
-) -> u64 {
-    let right = call(e, image, labels, links, table, outputs, work);
-    count(
-        try_pictures(e, image, labels, links, table, outputs, work, picture),
-        !right,
-    )
-}
-
-// Cuts the buffers to the lengths of an edge, and makes its calls.
-fn try_edge(
-    e: Edge,
-    bytes: &[u8],
-    labels: &mut [u32],
-    links: &mut [u32],
-    table: &mut [u32],
-    outputs: &mut [u32],
-    work: &mut [u32],
-    picture: &mut [u8],
-) -> u64 {
-    try_cut(
-        e,
-        part(bytes, 0, e.image),
-        cut(labels, e.labels),
-        cut(links, e.links),
-        cut(table, e.table),
-        cut(outputs, e.outputs),
-        cut(work, e.work),
-        picture,
-    )
-}
-
-// How many calls were made, and how many of them went wrong.
-pub struct Tried {
-    pub calls: u64,
-    pub wrong: u64,
-}
-
-// Makes every call.
-pub fn all(
-    bytes: &[u8],
-    labels: &mut [u32],
-    links: &mut [u32],
-    table: &mut [u32],
-    outputs: &mut [u32],
-    work: &mut [u32],
-    picture: &mut [u8],
-) -> Tried {
+// Makes every call, on an image of the first of these bytes; answers how many went wrong.
+pub(crate) fn all(bytes: &[u8]) -> u64 {
     let mut wrong = 0;
-    let mut k = 0;
-    while k < EDGES {
-        let more = try_edge(
-            edge_at(k),
-            bytes,
-            labels,
-            links,
-            table,
-            outputs,
-            work,
-            picture,
-        );
-        wrong = std::num::wrapping_add_u64(wrong, more);
+    let mut k: u64 = 0;
+    while k < CALLS {
+        let c = trials::make(bytes, trial(edge_at(k / 4), (k % 4) as usize));
+        wrong = count(wrong, !c.same);
         k += 1;
     }
-    Tried {
-        calls: 4 * EDGES,
-        wrong,
-    }
+    wrong
 }

@@ -3,7 +3,7 @@ use crate::reading::after_pixels;
 use crate::reading::part;
 
 // How many numbers a slot of the table has.
-const SLOT: usize = 21;
+pub(crate) const SLOT: usize = 21;
 
 // Whether two parts hold the same bytes.
 fn are_same(a: &[u8], b: &[u8]) -> bool {
@@ -37,7 +37,7 @@ fn are_rows(s: &[u8], at: usize, w: u32, h: u32, picture: &[u8]) -> bool {
 }
 
 // Whether a picture is the one that is recorded at a place, as a whole and row by row.
-pub fn is_picture(s: &[u8], at: usize, w: u32, h: u32, size: usize, picture: &[u8]) -> bool {
+pub(crate) fn is_picture(s: &[u8], at: usize, w: u32, h: u32, size: usize, picture: &[u8]) -> bool {
     are_same(picture, part(s, at, after_pixels(s, at, size))) & are_rows(s, at, w, h, picture)
 }
 
@@ -46,62 +46,43 @@ fn two_bytes(low: u8, high: u8) -> u32 {
     low as u32 + 256 * high as u32
 }
 
-// Whether number i after number `from` of a stored sheet is x.
-fn is_stored(sheet: &[u8], from: usize, i: usize, x: u32) -> bool {
-    let numbers = sheet.len() / 2;
-    if numbers <= from {
+// Whether number `at` of a stored sheet is number i of a buffer.
+fn is_stored(sheet: &[u8], at: usize, buffer: &[u32], i: usize) -> bool {
+    if sheet.len() / 2 <= at {
         return false;
     }
-    if numbers - from <= i {
+    if buffer.len() <= i {
         return false;
     }
-    let at = 2 * (from + i);
-    two_bytes(sheet[at], sheet[at + 1]) == x
+    two_bytes(sheet[2 * at], sheet[2 * at + 1]) == buffer[i]
 }
 
-// Whether label and link of each pixel are stored after the first four numbers.
-fn has_pixels(sheet: &[u8], labels: &[u32], links: &[u32]) -> bool {
-    if labels.len() != links.len() {
-        return false;
+// Whether `count` numbers of a buffer are stored: each `stride` one from `from` on, as each `step` one of the sheet from `at` on.
+fn are_stored(
+    sheet: &[u8],
+    at: usize,
+    step: usize,
+    buffer: &[u32],
+    from: usize,
+    stride: usize,
+    count: usize,
+) -> bool {
+    let mut same = true;
+    let mut to = at;
+    let mut i = from;
+    let mut n = 0;
+    while n < count {
+        same = same & is_stored(sheet, to, buffer, i);
+        to = std::num::wrapping_add_usize(to, step);
+        i = std::num::wrapping_add_usize(i, stride);
+        n += 1;
     }
-    let mut p = 0;
-    while p < labels.len() {
-        if !is_stored(sheet, 4, 2 * p, labels[p]) | !is_stored(sheet, 5, 2 * p, links[p]) {
-            return false;
-        }
-        p += 1;
-    }
-    true
+    same
 }
 
-// Whether first pixel and count of each slot are stored after number `from`.
-fn has_slots(sheet: &[u8], from: usize, table: &[u32]) -> bool {
-    let mut k = 0;
-    while k < table.len() / SLOT {
-        if !is_stored(sheet, from, 2 * k, table[SLOT * k])
-            | !is_stored(sheet, from, 2 * k + 1, table[SLOT * k + 1])
-        {
-            return false;
-        }
-        k += 1;
-    }
-    true
-}
-
-// Whether the outputs are stored after number `from`.
-fn has_outputs(sheet: &[u8], from: usize, outputs: &[u32]) -> bool {
-    let mut i = 0;
-    while i < outputs.len() {
-        if !is_stored(sheet, from, i, outputs[i]) {
-            return false;
-        }
-        i += 1;
-    }
-    true
-}
-
-// Whether a sheet with these counts is stored; labels, links, table and outputs are as long as the counts say.
-pub fn is_sheet(
+// Whether a sheet with these counts is stored, with labels as long as they say: the counts; label and link of each pixel; first
+// pixel and count of each slot; the outputs.
+pub(crate) fn is_sheet(
     sheet: &[u8],
     w: u32,
     h: u32,
@@ -112,12 +93,13 @@ pub fn is_sheet(
     table: &[u32],
     outputs: &[u32],
 ) -> bool {
+    let counts = [w, h, n, m];
     let slots = 4 + 2 * labels.len();
-    is_stored(sheet, 0, 0, w)
-        & is_stored(sheet, 0, 1, h)
-        & is_stored(sheet, 0, 2, n)
-        & is_stored(sheet, 0, 3, m)
-        & has_pixels(sheet, labels, links)
-        & has_slots(sheet, slots, table)
-        & has_outputs(sheet, slots + 2 * (table.len() / SLOT), outputs)
+    let outs = slots + 2 * (n as usize);
+    are_stored(sheet, 0, 1, &counts, 0, 1, 4)
+        & are_stored(sheet, 4, 2, labels, 0, 1, labels.len())
+        & are_stored(sheet, 5, 2, links, 0, 1, labels.len())
+        & are_stored(sheet, slots, 2, table, 0, SLOT, n as usize)
+        & are_stored(sheet, slots + 1, 2, table, 1, SLOT, n as usize)
+        & are_stored(sheet, outs, 1, outputs, 0, 1, m as usize)
 }

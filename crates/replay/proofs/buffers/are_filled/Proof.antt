@@ -1,6 +1,7 @@
 -- The loop goes to the end of the buffer.
 use Prim.Native.Nat.{_-_}
 use borrow.Author.Needs.{needs}
+use native.Mathlib.Omega.{arith}
 use lib.ListN.{length}
 use Rattle.replay.proofs.buffers.are_filled.Statement.{statement}
 use Rattle.replay.proofs.buffers.are_filled.Tie as tie
@@ -12,4 +13,4 @@ abbrev μ-loop : tie.MeasureT-loop
 μ-loop bytes from i₀ i = length bytes - i
 
 pub are-filled-spec : {M : Type 1} → statement M
-are-filled-spec = tie.close (tie.spec Inv-loop μ-loop (search needs) (search needs) (search needs) (search needs) (search needs) (search needs) (search needs) (search needs) (search needs))
+are-filled-spec = tie.close (tie.spec Inv-loop μ-loop (search needs) (λ c. omega arith) (search needs) (search needs) (search needs) (λ c. omega arith) (λ c. omega arith) (search needs) (search needs))

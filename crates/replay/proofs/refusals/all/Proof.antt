@@ -1,17 +1,15 @@
--- Every buffer keeps its length.
+-- The loop goes to the last call.
 use Prim.Native.Nat.{_-_}
-use mathlib.Core.Path.{_≡_}
 use borrow.Author.Needs.{needs}
-use lib.ListN.{length}
+use native.Mathlib.Omega.{arith}
 use Rattle.replay.proofs.refusals.all.Statement.{statement}
 use Rattle.replay.proofs.refusals.all.Tie as tie
 
 abbrev Inv-loop : tie.InvT-loop
-Inv-loop bytes labels₀ links₀ table₀ outputs₀ work₀ picture₀ wrong₀ k₀ labels links table outputs work picture wrong k =
-    (length labels ≡ length labels₀) × (length links ≡ length links₀) × (length table ≡ length table₀) × (length outputs ≡ length outputs₀) × (length work ≡ length work₀) × (length picture ≡ length picture₀)
+Inv-loop bytes wrong₀ k₀ wrong k = Unit {0}
 
 abbrev μ-loop : tie.MeasureT-loop
-μ-loop bytes labels₀ links₀ table₀ outputs₀ work₀ picture₀ wrong₀ k₀ labels links table outputs work picture wrong k = 31 - k
+μ-loop bytes wrong₀ k₀ wrong k = 124 - k
 
 pub all-spec : {M : Type 1} → statement M
-all-spec = tie.close (tie.spec Inv-loop μ-loop (search needs) (search needs) (search needs) (search needs) (search needs) (search needs) (search needs) (search needs) (search needs) (search needs) (search needs) (search needs) (search needs) (search needs) (search needs))
+all-spec = tie.close (tie.spec Inv-loop μ-loop (search needs) (search needs) (search needs) (search needs) (search needs) (λ c. omega arith) (λ c. omega arith) (search needs) (search needs))
