@@ -18,8 +18,8 @@ use super::builder;
 use super::cluster;
 use super::cluster::Nearest;
 use super::geometry;
-use super::queue;
 use super::keying;
+use super::queue;
 use super::slot;
 use crate::RunnerConfig;
 

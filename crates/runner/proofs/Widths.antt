@@ -1,0 +1,33 @@
+-- Sums and offsets that fit their width.
+use mathlib.Core.Path.{_≡_}
+use Prim.Native.Nat.{ℕ, _+_, _*_, _≤_, _<_}
+use native.Mathlib.Omega.{arith}
+use lib.Dec.{T, ltb}
+use mir.Syntax.{w32, w64}
+use mir.Val.{Fits}
+use Rattle.rules.proofs.Fits.{slot-in}
+
+-- the offset in bytes of a number of a list
+pub offset-fits : {i : ℕ} → Fits w32 i → Fits w64 (i * 4)
+offset-fits f = omega arith
+
+-- where a slot begins
+pub slot-begins : {k : ℕ} → Fits w32 k → Fits w64 (21 * k)
+slot-begins f = omega arith
+
+-- small numbers
+pub next-fits : {i : ℕ} → i < 2000000 → Fits w32 (i + 1)
+next-fits l = omega arith
+
+pub sum-fits : {i j : ℕ} → i < 2000000 → j < 2000000 → Fits w32 (i + j)
+sum-fits l m = omega arith
+
+pub sum-widens : {i j : ℕ} → i < 2000000 → j < 2000000 → Fits w64 (i + j)
+sum-widens l m = omega arith
+
+pub sum-offset : {i j : ℕ} → i < 2000000 → j < 2000000 → Fits w64 ((i + j) * 4)
+sum-offset l m = omega arith
+
+-- number j of slot k is in a table that is as long as before
+pub slot-kept : (k : ℕ) {m n : ℕ} → m ≡ n → 21 * k + 21 ≤ n → (j : ℕ) → T (ltb j 21) → 21 * k + j < m
+slot-kept k e l j h = rw e (slot-in k l j h)
