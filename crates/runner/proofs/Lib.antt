@@ -29,3 +29,4 @@ pub mod Starting
 pub mod Turning
 pub mod Visiting
 pub mod Widths
+pub mod Rooms

@@ -31,3 +31,39 @@ sum-offset l m = omega arith
 -- number j of slot k is in a table that is as long as before
 pub slot-kept : (k : ℕ) {m n : ℕ} → m ≡ n → 21 * k + 21 ≤ n → (j : ℕ) → T (ltb j 21) → 21 * k + j < m
 slot-kept k e l j h = rw e (slot-in k l j h)
+
+-- the ends of the parts of a work buffer of so many slots fit, and so do their offsets in bytes
+pub thrice-fits : {room : ℕ} → Fits w32 room → Fits w64 (3 * room)
+thrice-fits f = omega arith
+
+pub five-fits : {room : ℕ} → Fits w32 room → Fits w64 (5 * room)
+five-fits f = omega arith
+
+pub six-fits : {room : ℕ} → Fits w32 room → Fits w64 (6 * room)
+six-fits f = omega arith
+
+pub thrice-offset : {room : ℕ} → Fits w32 room → Fits w64 (3 * room * 4)
+thrice-offset f = omega arith
+
+pub five-offset : {room : ℕ} → Fits w32 room → Fits w64 (5 * room * 4)
+five-offset f = omega arith
+
+-- they are in order, and in the buffer
+pub three-five : (room : ℕ) → 3 * room ≤ 5 * room
+three-five room = omega arith
+
+pub five-six : (room : ℕ) → 5 * room ≤ 6 * room
+five-six room = omega arith
+
+pub thrice-in : (room : ℕ) {n : ℕ} → n ≡ 8 * room → 3 * room ≤ n
+thrice-in room e = omega arith
+
+pub five-in : (room : ℕ) {n : ℕ} → n ≡ 8 * room → 5 * room ≤ n
+five-in room e = omega arith
+
+pub six-in : (room : ℕ) {n : ℕ} → n ≡ 8 * room → 6 * room ≤ n
+six-in room e = omega arith
+
+-- a buffer that is as long as one of the same length
+pub same-long : {l m n r : ℕ} → l ≡ m → m ≡ r → n ≡ r → l ≡ n
+same-long e f g = omega arith
