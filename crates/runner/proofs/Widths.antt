@@ -67,3 +67,35 @@ six-in room e = omega arith
 -- a buffer that is as long as one of the same length
 pub same-long : {l m n r : ℕ} → l ≡ m → m ≡ r → n ≡ r → l ≡ n
 same-long e f g = omega arith
+
+-- the size of an image, and the room for its slots
+pub within : {n : ℕ} → n ≤ 65000 → n ≤ 1048576
+within l = omega arith
+
+pub size-fits : {n : ℕ} → n ≤ 1048576 → Fits w32 n
+size-fits l = omega arith
+
+pub size-widens : {n : ℕ} → n ≤ 1048576 → Fits w64 n
+size-widens l = omega arith
+
+pub room-fits : {n : ℕ} → n ≤ 1048576 → Fits w64 (n + 1)
+room-fits l = omega arith
+
+pub room-small : {n : ℕ} → n ≤ 1048576 → n + 1 ≤ 2000000
+room-small l = omega arith
+
+pub room-thrice : {n : ℕ} → n ≤ 1048576 → Fits w64 (3 * (n + 1))
+room-thrice l = omega arith
+
+pub room-five : {n : ℕ} → n ≤ 1048576 → Fits w64 (5 * (n + 1))
+room-five l = omega arith
+
+pub room-eight : {n : ℕ} → n ≤ 1048576 → Fits w64 (8 * (n + 1))
+room-eight l = omega arith
+
+pub room-offset : {n : ℕ} → n ≤ 1048576 → Fits w64 (3 * (n + 1) * 4)
+room-offset l = omega arith
+
+-- and its work buffer
+pub eight-in : (n : ℕ) {l : ℕ} → 8 * n + 8 ≤ l → 8 * (n + 1) ≤ l
+eight-in n e = omega arith
