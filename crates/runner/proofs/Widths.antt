@@ -78,6 +78,9 @@ size-fits l = omega arith
 pub size-widens : {n : ℕ} → n ≤ 1048576 → Fits w64 n
 size-widens l = omega arith
 
+pub room-narrow : {n : ℕ} → n ≤ 1048576 → Fits w32 (n + 1)
+room-narrow l = omega arith
+
 pub room-fits : {n : ℕ} → n ≤ 1048576 → Fits w64 (n + 1)
 room-fits l = omega arith
 
