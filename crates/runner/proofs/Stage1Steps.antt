@@ -25,7 +25,7 @@ use Rattle.runner.specs.declared.stage1.Into.the-variants.{Up, Left, Fre
 use Rattle.runner.specs.Slots.{clearedSlot}
 use Rattle.runner.specs.Rep.{Rep}
 use Rattle.runner.specs.Ops.{Added, CanAppend, Combined}
-use Rattle.runner.specs.Stage1.{Holding, meets, intoOf, joined, Begun, Placing, Meeting, Taking}
+use Rattle.runner.specs.Stage1.{Holding, meets, intoOf, joined, Begun, Placing, Meeting, MeetingIn, Joins, Taking}
 use Rattle.runner.proofs.RepStage1.{rep-fresh, rep-lower, labels-long}
 use Rattle.runner.proofs.Spots.{spot-in, left-earlier, up-earlier}
 use Rattle.runner.proofs.Stage1Laws.{rep-is, at-is, in-table, slot-in, few, count-of, rep-added, rep-begun, can-append, rep-combined}
@@ -144,7 +144,7 @@ module _ {o : RunnerConfig} {w h : ℕ} {image : List ℕ} {shift i x y l u : �
 
   module _ {L′ K′ B′ E′ : List ℕ} where
     -- left went into up
-    pub met-up : {n′ m′ : ℕ} → Combined l u L K B E L′ K′ B′ E′ → n′ ≡ (if eqb (l + 1) n && eqb n m then n - 1 else n) → m′ ≡ m
+    met-up : {n′ m′ : ℕ} → Combined l u L K B E L′ K′ B′ E′ → n′ ≡ (if eqb (l + 1) n && eqb n m then n - 1 else n) → m′ ≡ m
         → Placing o w h image shift i x y u u (lowerNext l (combine l u s)) t₀ L′ K′ B′ E′ n′ m′
     unfolding lowerNext combine
     met-up C a b = record {
@@ -167,7 +167,7 @@ module _ {o : RunnerConfig} {w h : ℕ} {image : List ℕ} {shift i x y l u : �
             (combine-empty i l u s (M .placing .early) (M .differ) hl hu (M .up-keyed))
 
     -- up went into left
-    pub met-left : Combined u l L K B E L′ K′ B′ E′ → Placing o w h image shift i x y l l (combine u l s) t₀ L′ K′ B′ E′ n m
+    met-left : Combined u l L K B E L′ K′ B′ E′ → Placing o w h image shift i x y l l (combine u l s) t₀ L′ K′ B′ E′ n m
     unfolding combine
     met-left C = record {
       given = M .placing .given;
@@ -180,16 +180,26 @@ module _ {o : RunnerConfig} {w h : ℕ} {image : List ℕ} {shift i x y l u : �
     }
 
     -- which of the two, by the counts that the code reads
-    module _ {n′ m′ : ℕ} where
-      pub held-up : getD B (21 * l + 1) 0 ≤ getD B (21 * u + 1) 0 → Holding (w * h) (place o w image i u u (lowerNext l (combine l u s))) t₀ L′ K′ B′ E′ n′ m′
-          → Holding (w * h) (combineThenPlace o w image i l u s) t₀ L′ K′ B′ E′ n′ m′
-      unfolding combineThenPlace
-      held-up z H = rw (le-leb (area (cluster s l)) (area (cluster s u)) (omega (arith, count-of (M .placing) l hl, count-of (M .placing) u hu))) H
+    pub joins-up : {n′ m′ a b : ℕ} → a ≡ getD B (21 * l + 1) 0 → b ≡ getD B (21 * u + 1) 0 → a ≤ b → Combined l u L K B E L′ K′ B′ E′ → n′ ≡ (if eqb (l + 1) n && eqb n m then n - 1 else n) → m′ ≡ m
+        → Joins o w h image shift i x y l u s t₀ L′ K′ B′ E′ n′ m′ u
+    unfolding combineThenPlace
+    joins-up p q z C a b = record {
+      state = lowerNext l (combine l u s);
+      placing = met-up C a b;
+      same = rw (le-leb (area (cluster s l)) (area (cluster s u)) (omega (arith, count-of (M .placing) l hl, count-of (M .placing) u hu)));
+    }
 
-      pub held-left : getD B (21 * u + 1) 0 < getD B (21 * l + 1) 0 → Holding (w * h) (place o w image i l l (combine u l s)) t₀ L′ K′ B′ E′ n′ m′
-          → Holding (w * h) (combineThenPlace o w image i l u s) t₀ L′ K′ B′ E′ n′ m′
-      unfolding combineThenPlace
-      held-left z H = rw (lt-leb (area (cluster s l)) (area (cluster s u)) (omega (arith, count-of (M .placing) l hl, count-of (M .placing) u hu))) H
+    pub joins-left : {a b : ℕ} → a ≡ getD B (21 * l + 1) 0 → b ≡ getD B (21 * u + 1) 0 → b < a → Combined u l L K B E L′ K′ B′ E′ → Joins o w h image shift i x y l u s t₀ L′ K′ B′ E′ n m l
+    unfolding combineThenPlace
+    joins-left p q z C = record {
+      state = combine u l s;
+      placing = met-left C;
+      same = rw (lt-leb (area (cluster s l)) (area (cluster s u)) (omega (arith, count-of (M .placing) l hl, count-of (M .placing) u hu)));
+    }
+
+-- of some pixel
+abbrev pub meeting-in : {o : RunnerConfig} {w h : ℕ} {image : List ℕ} {shift i x y l u : ℕ} {s : State} {t₀ L K B E : List ℕ} {n m : ℕ} → Meeting o w h image shift i x y l u s t₀ L K B E n m → MeetingIn l u L K B E n m
+meeting-in {o} {w} {h} {image} {shift} {i} {x} {y} {l} {u} {s} {t₀} M = record { o = o; w = w; h = h; image = image; shift = shift; i = i; x = x; y = y; s = s; t₀ = t₀; meeting = M }
 
 -- ---- a pixel is taken
 
@@ -262,9 +272,9 @@ module _ {o : RunnerConfig} {w h : ℕ} {image : List ℕ} {shift i x y : ℕ} {
         ∙ take-is o w image i s b (sym (ap₂ (meets o w image i) to-left to-up) ∙ e) ∙ next-is o w image (w * h) i
 
     module _ {L′ K′ B′ E′ : List ℕ} {n′ m′ : ℕ} where
-      pub take-met : meets o w image i l u ≡ true → Holding (w * h) (combineThenPlace o w image i l u (taken o w image (w * h) i)) t₀ L′ K′ B′ E′ n′ m′
-          → Holding (w * h) (taken o w image (w * h) (suc i)) t₀ L′ K′ B′ E′ n′ m′
-      take-met e H = subst (λ z. Holding (w * h) z t₀ L′ K′ B′ E′ n′ m′) (after true e) H
+      pub take-met : meets o w image i l u ≡ true → {L₁ K₁ B₁ E₁ : List ℕ} {n₁ m₁ k : ℕ} (J : Joins o w h image shift i x y l u (taken o w image (w * h) i) t₀ L₁ K₁ B₁ E₁ n₁ m₁ k)
+          → Holding (w * h) (place o w image i k k (J .state)) t₀ L′ K′ B′ E′ n′ m′ → Holding (w * h) (taken o w image (w * h) (suc i)) t₀ L′ K′ B′ E′ n′ m′
+      take-met e J H = subst (λ z. Holding (w * h) z t₀ L′ K′ B′ E′ n′ m′) (sym (J .same) ∙ after true e) H
 
       pub take-placed : meets o w image i l u ≡ false → Holding (w * h) (place o w image i l u (taken o w image (w * h) i)) t₀ L′ K′ B′ E′ n′ m′
           → Holding (w * h) (taken o w image (w * h) (suc i)) t₀ L′ K′ B′ E′ n′ m′

@@ -12,7 +12,7 @@ use Rattle.rules.specs.Base.{if_then_else_}
 use Rattle.rules.specs.Color.{Color, RunnerConfig, keyingOn}
 use Rattle.rules.specs.Grid.{up, left, upLeft}
 use Rattle.rules.specs.State.{State}
-use Rattle.rules.specs.Stage1.{sameAt, taken}
+use Rattle.rules.specs.Stage1.{sameAt, place, combineThenPlace, taken}
 use Rattle.rules.specs.Demand3.{Discarded}
 use Rattle.rules.proofs.Early.{Early}
 use Rattle.runner.specs.declared.stage1.Into.{Into}
@@ -83,6 +83,26 @@ pub record Meeting (o : RunnerConfig) (w h : ℕ) (image : List ℕ) (shift i x 
   pub differ : l ≢ u
   pub left-keyed : l ≡ 0 → T (keyingOn o)
   pub up-keyed : u ≡ 0 → T (keyingOn o)
+
+-- the same, of some pixel
+pub record MeetingIn (l u : ℕ) (L K B E : List ℕ) (next count : ℕ) : Type 0 where
+  pub o : RunnerConfig
+  pub w : ℕ
+  pub h : ℕ
+  pub image : List ℕ
+  pub shift : ℕ
+  pub i : ℕ
+  pub x : ℕ
+  pub y : ℕ
+  pub s : State
+  pub t₀ : List ℕ
+  pub meeting : Meeting o w h image shift i x y l u s t₀ L K B E next count
+
+-- they are one cluster, number k, and the pixel is to be placed with k for both labels
+pub record Joins (o : RunnerConfig) (w h : ℕ) (image : List ℕ) (shift i x y l u : ℕ) (s : State) (t₀ L K B E : List ℕ) (next count k : ℕ) : Type 0 where
+  pub state : State
+  pub placing : Placing o w h image shift i x y k k state t₀ L K B E next count
+  pub same : combineThenPlace o w image i l u s ≡ place o w image i k k state
 
 -- i pixels are taken, and pixel i is next
 pub record Taking (o : RunnerConfig) (w h : ℕ) (image : List ℕ) (shift i x y : ℕ) (t₀ L K B E : List ℕ) (next count : ℕ) : Type 0 where

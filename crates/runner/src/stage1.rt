@@ -14,7 +14,7 @@ ghost use Rattle.rules.specs.Stage1 as rules;
 ghost use Rattle.rules.specs.Run as run;
 ghost use Rattle.color.specs.Colors.{colorOf, optionOf};
 ghost use Rattle.runner.specs.Types.{configOf};
-ghost use Rattle.runner.specs.Stage1.{Given, Spot, Holding, meets, joined, CanBegin, Begun, Placing, Meeting, Taking, Blank};
+ghost use Rattle.runner.specs.Stage1.{Given, Spot, Holding, meets, joined, CanBegin, Begun, Placing, MeetingIn, Joins, Taking, Blank};
 use super::builder;
 use super::keying;
 use super::slot;
@@ -214,65 +214,34 @@ fn lower_next(s: Slots, l: u32) -> Slots
     s
 }
 
-// Step 1: the smaller cluster goes into the larger, left into up on equal counts; then the others, with the survivor's number for both.
-fn combine_then_place(
-    image: &[u8],
+// The cluster that two became, and the slots.
+struct Joined {
+    to: u32,
+    slots: Slots,
+}
+
+// Step 1: the smaller cluster goes into the larger, left into up on equal counts.
+fn combine_met(
     labels: &mut [u32],
     links: &mut [u32],
     table: &mut [u32],
     ends: &mut [u32],
-    o: RunnerConfig,
-    shift: u32,
-    w: u32,
-    h: u32,
     l: u32,
     u: u32,
     s: Slots,
-    i: u32,
-    x: u32,
-    y: u32,
-) -> Slots
-    requires { ⌜ ((st : State) × (t₀ : List ℕ) × Meeting (configOf o) w h (now image) shift i x y l u st t₀ (now labels) (now links) (now table) (now ends) (s .next) (s .count)) ⌝ }
-    ensures { λ r. ⌜ ((st : State) (t₀ : List ℕ) → Meeting (configOf o) w h (now (image .entry)) shift i x y l u st t₀ (now (labels .entry)) (now (links .entry)) (now (table .entry)) (now (ends .entry)) (s .next) (s .count) → Holding (w * h) (rules.combineThenPlace (configOf o) w (now (image .entry)) i l u st) t₀ (now (labels .exit)) (now (links .exit)) (now (table .exit)) (now (ends .exit)) (r .next) (r .count)) ⌝ }
+) -> Joined
+    requires { ⌜ MeetingIn l u (now labels) (now links) (now table) (now ends) (s .next) (s .count) ⌝ }
+    ensures { λ r. ⌜ ((m : MeetingIn l u (now (labels .entry)) (now (links .entry)) (now (table .entry)) (now (ends .entry)) (s .next) (s .count)) → Joins (m .o) (m .w) (m .h) (m .image) (m .shift) (m .i) (m .x) (m .y) l u (m .s) (m .t₀) (now (labels .exit)) (now (links .exit)) (now (table .exit)) (now (ends .exit)) (r .slots .next) (r .slots .count) (r .to)) ⌝ }
 {
     if slot::count_of(table, l) <= slot::count_of(table, u) {
         builder::combine(labels, links, table, ends, l, u);
-        return place(
-            image,
-            labels,
-            links,
-            table,
-            ends,
-            o,
-            shift,
-            w,
-            h,
-            u,
-            u,
-            lower_next(s, l),
-            i,
-            x,
-            y,
-        );
+        return Joined {
+            to: u,
+            slots: lower_next(s, l),
+        };
     }
     builder::combine(labels, links, table, ends, u, l);
-    place(
-        image,
-        labels,
-        links,
-        table,
-        ends,
-        o,
-        shift,
-        w,
-        h,
-        l,
-        l,
-        s,
-        i,
-        x,
-        y,
-    )
+    Joined { to: l, slots: s }
 }
 
 // The label of the pixel above and of the one to the left, 0 off the image.
@@ -297,7 +266,7 @@ fn left_label(labels: &[u32], i: u32, x: u32) -> u32
     labels[(i - 1) as usize]
 }
 
-// Pixel i, at column x and row y, is taken.
+// Pixel i, at column x and row y, is taken. Where the clusters of left and up meet in it, they are one, and the other steps have its number for both.
 fn take_pixel(
     image: &[u8],
     labels: &mut [u32],
@@ -319,7 +288,8 @@ fn take_pixel(
     let u = up_label(labels, w, i, y);
     let l = left_label(labels, i, x);
     if left_meets_up(image, o, shift, w, h, l, u, x, y) {
-        return combine_then_place(
+        let met = combine_met(labels, links, table, ends, l, u, s);
+        return place(
             image,
             labels,
             links,
@@ -329,9 +299,9 @@ fn take_pixel(
             shift,
             w,
             h,
-            l,
-            u,
-            s,
+            met.to,
+            met.to,
+            met.slots,
             i,
             x,
             y,
