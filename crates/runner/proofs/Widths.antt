@@ -2,7 +2,7 @@
 use mathlib.Core.Path.{_≡_}
 use Prim.Native.Nat.{ℕ, _+_, _*_, _≤_, _<_}
 use native.Mathlib.Omega.{arith}
-use lib.Dec.{T, ltb}
+use lib.Dec.{T, ltb, lit<}
 use mir.Syntax.{w32, w64}
 use mir.Val.{Fits}
 use Rattle.rules.proofs.Fits.{slot-in}
@@ -102,3 +102,17 @@ room-offset l = omega arith
 -- and its work buffer
 pub eight-in : (n : ℕ) {l : ℕ} → 8 * n + 8 ≤ l → 8 * (n + 1) ≤ l
 eight-in n e = omega arith
+
+-- the index of a channel of pixel i fits
+pub pixel-begins : {i : ℕ} → Fits w32 i → Fits w64 (4 * i)
+pixel-begins f = omega arith
+
+pub channel-fits : {i : ℕ} → Fits w32 i → (j : ℕ) → T (ltb j 4) → Fits w64 (4 * i + j)
+channel-fits f j h = omega (arith, lit< {m = j} {n = 4} h)
+
+-- it is in the image
+pub first-in : (i : ℕ) {n : ℕ} → 4 * i + 4 ≤ n → 4 * i < n
+first-in i l = omega arith
+
+pub channel-in : (i : ℕ) {n : ℕ} → 4 * i + 4 ≤ n → (j : ℕ) → T (ltb j 4) → 4 * i + j < n
+channel-in i l j h = omega (arith, lit< {m = j} {n = 4} h)
