@@ -116,3 +116,7 @@ first-in i l = omega arith
 
 pub channel-in : (i : ℕ) {n : ℕ} → 4 * i + 4 ≤ n → (j : ℕ) → T (ltb j 4) → 4 * i + j < n
 channel-in i l j h = omega (arith, lit< {m = j} {n = 4} h)
+
+-- a small number of slots
+pub small-fits : {room : ℕ} → room ≤ 2000000 → Fits w32 room
+small-fits l = omega arith
