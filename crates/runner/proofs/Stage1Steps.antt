@@ -21,11 +21,14 @@ use Rattle.rules.proofs.Facts.{eqb-yes}
 use Rattle.rules.proofs.Basic.{combine-moved}
 use Rattle.rules.proofs.Early.{Early, Earlier, label-next, combine-early, combine-empty, lower-early}
 use Rattle.rules.proofs.Whole.{early-at}
+use Rattle.runner.specs.declared.stage1.Into.{Into}
 use Rattle.runner.specs.declared.stage1.Into.the-variants.{Up, Left, Fresh}
+use Rattle.runner.specs.declared.stage1.Target.{Target}
+use Rattle.runner.specs.declared.stage1.Target.the-variants.{Nowhere, To, Begins}
 use Rattle.runner.specs.Slots.{clearedSlot}
 use Rattle.runner.specs.Rep.{Rep}
 use Rattle.runner.specs.Ops.{Added, CanAppend, Combined}
-use Rattle.runner.specs.Stage1.{Holding, meets, intoOf, joined, Begun, Placing, Meeting, MeetingIn, Joins, Taking}
+use Rattle.runner.specs.Stage1.{Holding, meets, intoOf, joined, targetOf, Begun, Placing, Meeting, MeetingIn, Joins, Taking}
 use Rattle.runner.proofs.RepStage1.{rep-fresh, rep-lower, labels-long}
 use Rattle.runner.proofs.Spots.{spot-in, left-earlier, up-earlier}
 use Rattle.runner.proofs.Stage1Laws.{rep-is, at-is, in-table, slot-in, few, count-of, rep-added, rep-begun, can-append, rep-combined}
@@ -51,6 +54,12 @@ into-fresh false true true e = (refl, refl)
 into-fresh false true false e = (refl, refl)
 into-fresh false false true e = (refl, refl)
 into-fresh false false false e = (refl, refl)
+
+-- the cluster that a pixel goes to, 0 where it goes to none that is there
+abbrev numberTo : Target → ℕ
+numberTo Nowhere = 0
+numberTo (To k) = k
+numberTo Begins = 0
 
 module _ {o : RunnerConfig} {w h : ℕ} {image : List ℕ} {shift i x y l u : ℕ} {s : State} {t₀ L K B E : List ℕ} {n m : ℕ} (P : Placing o w h image shift i x y l u s t₀ L K B E n m) where
   module _ {c : Color} (e : c ≡ pixel image i) where
@@ -93,22 +102,49 @@ module _ {o : RunnerConfig} {w h : ℕ} {image : List ℕ} {shift i x y l u : �
     place-as : {z : State} → z ≡ place o w image i l u s → Holding (w * h) z t₀ L′ K′ B′ E′ n′ m′ → Holding (w * h) (place o w image i l u s) t₀ L′ K′ B′ E′ n′ m′
     place-as e H = subst (λ z. Holding (w * h) z t₀ L′ K′ B′ E′ n′ m′) e H
 
-  pub place-gone : isKey o image i ≡ true → isDiscard (o .keyingAction) ≡ true → Holding (w * h) (place o w image i l u s) t₀ L K B E n m
+  place-gone : isKey o image i ≡ true → isDiscard (o .keyingAction) ≡ true → Holding (w * h) (place o w image i l u s) t₀ L K B E n m
   place-gone e d = place-as (place-is true true _ _ e d refl refl) (P .holding)
 
   module _ {c : Color} (e : c ≡ pixel image i) {L′ K′ B′ E′ : List ℕ} where
-    pub place-key : isKey o image i ≡ true → isDiscard (o .keyingAction) ≡ false → Added 0 i x y c L K B E L′ K′ B′ E′ → Holding (w * h) (place o w image i l u s) t₀ L′ K′ B′ E′ n m
+    place-key : isKey o image i ≡ true → isDiscard (o .keyingAction) ≡ false → Added 0 i x y c L K B E L′ K′ B′ E′ → Holding (w * h) (place o w image i l u s) t₀ L′ K′ B′ E′ n m
     place-key k d A = place-as (place-is true false _ _ k d refl refl) (held-add e 0 (P .early .some) A)
 
-    pub place-up : isKey o image i ≡ false → joined o w image i ≡ Up → Added u i x y c L K B E L′ K′ B′ E′ → Holding (w * h) (place o w image i l u s) t₀ L′ K′ B′ E′ n m
+    place-up : isKey o image i ≡ false → joined o w image i ≡ Up → Added u i x y c L K B E L′ K′ B′ E′ → Holding (w * h) (place o w image i l u s) t₀ L′ K′ B′ E′ n m
     place-up k j A = place-as (place-is false _ true _ k refl (into-up (sameAt o image (some i) (upLeft w i)) (sameAt o image (some i) (up w i)) (sameAt o image (some i) (left w i)) j) refl) (held-add e u (P .to-up) A)
 
-    pub place-left : isKey o image i ≡ false → joined o w image i ≡ Left → Added l i x y c L K B E L′ K′ B′ E′ → Holding (w * h) (place o w image i l u s) t₀ L′ K′ B′ E′ n m
+    place-left : isKey o image i ≡ false → joined o w image i ≡ Left → Added l i x y c L K B E L′ K′ B′ E′ → Holding (w * h) (place o w image i l u s) t₀ L′ K′ B′ E′ n m
     place-left k j A = let f = into-left (sameAt o image (some i) (upLeft w i)) (sameAt o image (some i) (up w i)) (sameAt o image (some i) (left w i)) j in place-as (place-is false _ false true k refl (f .0) (f .1)) (held-add e l (P .to-left) A)
 
-    pub place-fresh : {n′ m′ : ℕ} → isKey o image i ≡ false → joined o w image i ≡ Fresh → Begun n m i x y c L K B E L′ K′ B′ E′ n′ m′
+    place-fresh : {n′ m′ : ℕ} → isKey o image i ≡ false → joined o w image i ≡ Fresh → Begun n m i x y c L K B E L′ K′ B′ E′ n′ m′
         → Holding (w * h) (place o w image i l u s) t₀ L′ K′ B′ E′ n′ m′
     place-fresh k j A = let f = into-fresh (sameAt o image (some i) (upLeft w i)) (sameAt o image (some i) (up w i)) (sameAt o image (some i) (left w i)) j in place-as (place-is false _ false false k refl (f .0) (f .1)) (held-begin e A)
+
+  -- by where the pixel goes
+  targeted : (a b : Bool) (j : Into) → numberTo (targetOf a b j l u) < s .next
+  targeted true true j = P .early .some
+  targeted true false j = P .early .some
+  targeted false b Up = P .to-up
+  targeted false b Left = P .to-left
+  targeted false b Fresh = P .early .some
+
+  pub target-in : {t : Target} {k : ℕ} → t ≡ targetOf (isKey o image i) (isDiscard (o .keyingAction)) (joined o w image i) l u → t ≡ To k → k < s .next
+  target-in p q = subst (λ z. numberTo z < s .next) (sym p ∙ q) (targeted (isKey o image i) (isDiscard (o .keyingAction)) (joined o w image i))
+
+  module _ {c : Color} (e : c ≡ pixel image i) where
+    abbrev Outcome : Target → Type 0
+    Outcome Nowhere = Holding (w * h) (place o w image i l u s) t₀ L K B E n m
+    Outcome (To k) = (L′ K′ B′ E′ : List ℕ) → Added k i x y c L K B E L′ K′ B′ E′ → Holding (w * h) (place o w image i l u s) t₀ L′ K′ B′ E′ n m
+    Outcome Begins = (L′ K′ B′ E′ : List ℕ) (n′ m′ : ℕ) → Begun n m i x y c L K B E L′ K′ B′ E′ n′ m′ → Holding (w * h) (place o w image i l u s) t₀ L′ K′ B′ E′ n′ m′
+
+    outcome : (a b : Bool) (j : Into) → isKey o image i ≡ a → isDiscard (o .keyingAction) ≡ b → joined o w image i ≡ j → Outcome (targetOf a b j l u)
+    outcome true true j k d z = place-gone k d
+    outcome true false j k d z = λ L′ K′ B′ E′ A. place-key e k d A
+    outcome false b Up k d z = λ L′ K′ B′ E′ A. place-up e k z A
+    outcome false b Left k d z = λ L′ K′ B′ E′ A. place-left e k z A
+    outcome false b Fresh k d z = λ L′ K′ B′ E′ n′ m′ A. place-fresh e k z A
+
+    pub placed : {t z : Target} → t ≡ targetOf (isKey o image i) (isDiscard (o .keyingAction)) (joined o w image i) l u → t ≡ z → Outcome z
+    placed p q = subst Outcome (sym p ∙ q) (outcome (isKey o image i) (isDiscard (o .keyingAction)) (joined o w image i) refl refl refl)
 
 -- ---- two clusters meet
 

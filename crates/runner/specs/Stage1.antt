@@ -17,6 +17,8 @@ use Rattle.rules.specs.Demand3.{Discarded}
 use Rattle.rules.proofs.Early.{Early}
 use Rattle.runner.specs.declared.stage1.Into.{Into}
 use Rattle.runner.specs.declared.stage1.Into.the-variants.{Up, Left, Fresh}
+use Rattle.runner.specs.declared.stage1.Target.{Target}
+use Rattle.runner.specs.declared.stage1.Target.the-variants.{Nowhere, To, Begins}
 use Rattle.runner.specs.Slots.{clearedSlot}
 use Rattle.runner.specs.Rep.{Rep}
 use Rattle.runner.specs.Ops.{CanAdd, Added}
@@ -55,6 +57,14 @@ intoOf false u l = Fresh
 
 abbrev pub joined : RunnerConfig → ℕ → List ℕ → ℕ → Into
 joined o w image i = intoOf (sameAt o image (some i) (upLeft w i)) (sameAt o image (some i) (up w i)) (sameAt o image (some i) (left w i))
+
+-- where a pixel goes, by whether it has the key colour and such pixels are discarded, and by the cluster that it joins
+abbrev pub targetOf : Bool → Bool → Into → ℕ → ℕ → Target
+targetOf true true j l u = Nowhere
+targetOf true false j l u = To 0
+targetOf false d Up l u = To u
+targetOf false d Left l u = To l
+targetOf false d Fresh l u = Begins
 
 -- slot next can be cleared and take pixel i
 pub record CanBegin (next i x y : ℕ) (c : Color) (L K B E : List ℕ) : Type 0 where

@@ -8,13 +8,14 @@ ghost use lib.Dec.{eqb, ltb};
 ghost use lib.IntN.{pos};
 ghost use lib.ListN.{length};
 ghost use Rattle.rules.specs.Base.{if_then_else_};
+ghost use Rattle.rules.specs.Color.{isDiscard};
 ghost use Rattle.rules.specs.Grid as grid;
 ghost use Rattle.rules.specs.State.{State};
 ghost use Rattle.rules.specs.Stage1 as rules;
 ghost use Rattle.rules.specs.Run as run;
 ghost use Rattle.color.specs.Colors.{colorOf, optionOf};
 ghost use Rattle.runner.specs.Types.{configOf};
-ghost use Rattle.runner.specs.Stage1.{Given, Spot, Holding, meets, joined, CanBegin, Begun, Placing, MeetingIn, Joins, Taking, Blank};
+ghost use Rattle.runner.specs.Stage1.{Given, Spot, Holding, meets, joined, targetOf, CanBegin, Begun, Placing, MeetingIn, Joins, Taking, Blank};
 use super::builder;
 use super::keying;
 use super::slot;
@@ -32,6 +33,13 @@ enum Into {
     Up,
     Left,
     Fresh,
+}
+
+// Where a pixel goes: nowhere, to a cluster that is there, or to a fresh one.
+enum Target {
+    Nowhere,
+    To(u32),
+    Begins,
 }
 
 // The pixel to the left of column x, row y; none at the border.
@@ -100,7 +108,7 @@ fn left_meets_up(
     false
 }
 
-// Steps 3 to 5: which cluster the pixel joins.
+// Steps 3 to 5: which cluster a pixel joins.
 fn joins(image: &[u8], o: RunnerConfig, shift: u32, w: u32, h: u32, x: u32, y: u32) -> Into
     ensures { λ r. ⌜ ((i : ℕ) → Spot w h i x y → Given (configOf o) w h (now (image .entry)) shift → r ≡ joined (configOf o) w (now (image .entry)) i) ⌝ }
 {
@@ -114,6 +122,36 @@ fn joins(image: &[u8], o: RunnerConfig, shift: u32, w: u32, h: u32, x: u32, y: u
         }
     }
     Into::Fresh
+}
+
+// Steps 2 to 5: where pixel i goes, with l and u for the labels of left and up.
+fn destination(
+    image: &[u8],
+    o: RunnerConfig,
+    shift: u32,
+    w: u32,
+    h: u32,
+    l: u32,
+    u: u32,
+    i: u32,
+    x: u32,
+    y: u32,
+) -> Target
+    requires { ⌜ 4 * i + 4 ≤ length (now image) ⌝ }
+    ensures { λ r. ⌜ (Spot w h i x y → Given (configOf o) w h (now (image .entry)) shift → r ≡ targetOf (rules.isKey (configOf o) (now (image .entry)) i) (isDiscard (configOf o .keyingAction)) (joined (configOf o) w (now (image .entry)) i) l u) ⌝ }
+{
+    if keying::is_key(image, o, i) {
+        if keying::is_discard(o) {
+            return Target::Nowhere;
+        }
+        return Target::To(0);
+    }
+    let into = joins(image, o, shift, w, h, x, y);
+    match into {
+        Into::Up => Target::To(u),
+        Into::Left => Target::To(l),
+        Into::Fresh => Target::Begins,
+    }
 }
 
 // Slot next is taken: next rises by one, and so does the number of slots where the slot is new.
@@ -177,24 +215,14 @@ fn place(
     ensures { λ r. ⌜ ((st : State) (t₀ : List ℕ) → Placing (configOf o) w h (now (image .entry)) shift i x y l u st t₀ (now (labels .entry)) (now (links .entry)) (now (table .entry)) (now (ends .entry)) (s .next) (s .count) → Holding (w * h) (rules.place (configOf o) w (now (image .entry)) i l u st) t₀ (now (labels .exit)) (now (links .exit)) (now (table .exit)) (now (ends .exit)) (r .next) (r .count)) ⌝ }
 {
     let c = keying::color_at(image, i);
-    if keying::is_key(image, o, i) {
-        if keying::is_discard(o) {
-            return s;
-        }
-        builder::add(labels, links, table, ends, 0, i, x, y, c);
-        return s;
-    }
-    let to = joins(image, o, shift, w, h, x, y);
+    let to = destination(image, o, shift, w, h, l, u, i, x, y);
     match to {
-        Into::Up => {
-            builder::add(labels, links, table, ends, u, i, x, y, c);
+        Target::Nowhere => s,
+        Target::To(k) => {
+            builder::add(labels, links, table, ends, k, i, x, y, c);
             s
         }
-        Into::Left => {
-            builder::add(labels, links, table, ends, l, i, x, y, c);
-            s
-        }
-        Into::Fresh => begin_cluster(labels, links, table, ends, s, i, x, y, c),
+        Target::Begins => begin_cluster(labels, links, table, ends, s, i, x, y, c),
     }
 }
 
