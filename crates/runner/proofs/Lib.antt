@@ -28,3 +28,5 @@ pub mod Prepare
 pub mod Starting
 pub mod Turning
 pub mod Visiting
+pub mod Widths
+pub mod Rooms

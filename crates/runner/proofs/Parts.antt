@@ -1,7 +1,7 @@
 -- Laws of a part of a list that was lent and came back. Assumes nothing.
 use mathlib.Core.Path.{_≡_, ap, sym, _∙_}
 use mathlib.Core.List.{List, _++_}
-use Prim.Native.Nat.{ℕ, _+_, _-_, _≤_, _<_}
+use Prim.Native.Nat.{ℕ, _+_, _-_, _*_, _≤_, _<_}
 use native.Mathlib.Omega.{arith}
 use lib.ListN.{length, getD, set, take, drop, length-set, length-append, length-take, length-drop, List·getD-append}
 use lib.Seq.{length-take-le, getD-append-add, getD-take, getD-drop, getD-set-other, take-at, drop-at, ext-getD}
@@ -23,6 +23,10 @@ part-at w a e i h = getD-take (e - a) (drop a w) i 0 h ∙ getD-drop a w i 0
 
 pub part-length : (w : List ℕ) (a e : ℕ) → e ≤ length w → length (part w a e) ≡ e - a
 part-length w a e h = mid-len a e w h
+
+-- the ends of the lists in a work buffer of so many slots
+pub ends-length : (room : ℕ) (w : List ℕ) → length w ≡ 8 * room → length (part w (3 * room) (5 * room)) ≡ 2 * room
+ends-length room w e = part-length w (3 * room) (5 * room) (omega arith) ∙ omega arith
 
 -- a store behind a part leaves it
 pub part-set : (w : List ℕ) (b e i v : ℕ) → e ≤ i → part (set w i v) b e ≡ part w b e

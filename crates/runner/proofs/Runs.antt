@@ -5,6 +5,7 @@ use Prim.Native.Nat.{ℕ, zero, suc, _+_, _-_, _*_, _≤_, _<_}
 use native.Mathlib.Nat.{sub-zero}
 use native.Mathlib.Omega.{arith}
 use lib.Dec.{ltb}
+use lib.IntN.{pos}
 use lib.ListN.{length, getD, take, drop, replicate, length-replicate, List·getD-append}
 use lib.Seq.{length-take-le, getD-take, ext-getD}
 use Rattle.rules.specs.Base.{if_then_else_, keep}
@@ -23,10 +24,10 @@ use Rattle.rules.proofs.Order.{drained-stage2}
 use Rattle.rules.proofs.Ranges.{turns-ranged}
 use Rattle.runner.specs.Outputs.{counted}
 use Rattle.runner.specs.Rep.{Table, Rep, slotsOf}
-use Rattle.runner.specs.Stage1.{Holding}
-use Rattle.runner.specs.Stage2.{part, withPart, marksPart, Image, Entered, CanStage2, Staged}
-use Rattle.runner.specs.Calls.{CanRun, CanFinish, Finished}
-use Rattle.runner.proofs.Parts.{part-at, part-length, length-with, part-with, part-after}
+use Rattle.runner.specs.Stage1.{Holding, Given, Blank}
+use Rattle.runner.specs.Stage2.{part, withPart, endsPart, marksPart, Image, Entered, CanStage2, Staged}
+use Rattle.runner.specs.Calls.{Blanked, CanRun, CanFinish, Finished}
+use Rattle.runner.proofs.Parts.{part-at, part-length, ends-length, length-with, part-with, part-after}
 use Rattle.runner.proofs.Tables.{sum-at, table-over}
 
 -- ---- stage 1
@@ -45,7 +46,7 @@ no-marks W room l =
 
 -- a work buffer W with no mark, into whose second part stage 1 has put the ends E of the lists
 module _ {w h : ℕ} (W E : List ℕ) (long : length W ≡ 8 * (w * h + 1)) (wide : length E ≡ 2 * (w * h + 1)) where
-  pub entered : {o : RunnerConfig} {image t₀ L K B : List ℕ} {next count : ℕ} → 21 * (w * h + 1) ≤ length t₀ → Holding (w * h) (stage1 o w h image) t₀ L K B E next count
+  entered : {o : RunnerConfig} {image t₀ L K B : List ℕ} {next count : ℕ} → 21 * (w * h + 1) ≤ length t₀ → Holding (w * h) (stage1 o w h image) t₀ L K B E next count
       → Entered o w h image t₀ L K B (withPart W (3 * (w * h + 1)) (5 * (w * h + 1)) E) count
   entered {o} {image} {t₀} {L} {K} {B} room H = record {
     rep =
@@ -55,7 +56,7 @@ module _ {w h : ℕ} (W E : List ℕ) (long : length W ≡ 8 * (w * h + 1)) (wid
     table-fits = room;
   }
 
-  pub can-stage2 : {image : List ℕ} (W₀ : List ℕ) → Image w h image → length W₀ ≡ 8 * (w * h + 1) → W ≡ withPart W₀ (5 * (w * h + 1)) (6 * (w * h + 1)) (replicate (w * h + 1) 0)
+  can-stage2 : {image : List ℕ} (W₀ : List ℕ) → Image w h image → length W₀ ≡ 8 * (w * h + 1) → W ≡ withPart W₀ (5 * (w * h + 1)) (6 * (w * h + 1)) (replicate (w * h + 1) 0)
       → CanStage2 w h image (withPart W (3 * (w * h + 1)) (5 * (w * h + 1)) E)
   can-stage2 W₀ I l e = record {
     image-fits = I;
@@ -68,6 +69,26 @@ module _ {w h : ℕ} (W E : List ℕ) (long : length W ≡ 8 * (w * h + 1)) (wid
 
       zero-part : marksPart room (withPart W₀ (5 * room) (6 * room) (replicate room 0)) ≡ replicate room 0
       zero-part = part-with W₀ (5 * room) (6 * room) (replicate room 0) (omega arith) (omega arith) (length-replicate room 0 ∙ omega arith)
+
+-- what stage 1 asks and leaves, when labels, links and marks are blank
+module _ {o : RunnerConfig} {w h : ℕ} {image L K B W L₁ K₁ W₁ : List ℕ} (R : CanRun o w h image L K B W) (D : Blanked (w * h + 1) L K W L₁ K₁ W₁) (kept : length W₁ ≡ length W) where
+  pub stage-1-asks : {shift : ℕ} → o .isSameColorA ≡ pos shift → Given o w h image shift × Blank (w * h) L₁ K₁ B (endsPart (w * h + 1) W₁)
+  stage-1-asks e = (
+    record { shifted = e; bytes = R .image-fits .bytes; whole = R .image-fits .whole; columns = R .image-fits .columns; rows = R .rows; small = R .image-fits .small },
+    record {
+      labels = D .labels ∙ ap (λ n. replicate n 0) (R .labels);
+      links = D .links ∙ ap (λ n. replicate n 0) (R .links);
+      table = R .table;
+      ends = ends-length (w * h + 1) W₁ (kept ∙ R .work);
+    },
+  )
+
+  pub labelled : {L′ K′ B′ E : List ℕ} {next count : ℕ} → Holding (w * h) (stage1 o w h image) B L′ K′ B′ E next count
+      → Entered o w h image B L′ K′ B′ (withPart W₁ (3 * (w * h + 1)) (5 * (w * h + 1)) E) count × CanStage2 w h image (withPart W₁ (3 * (w * h + 1)) (5 * (w * h + 1)) E)
+  labelled {L′} {K′} {B′} {E} H = (
+    entered W₁ E (kept ∙ R .work) (H .rep .room) (R .table) H,
+    can-stage2 W₁ E (kept ∙ R .work) (H .rep .room) W (R .image-fits) (R .work) (D .work),
+  )
 
 -- ---- the end
 

@@ -1,5 +1,4 @@
 use mathlib.Core.Path.{_≡_, sym, _∙_}
-use borrow.Author.Needs.{needs}
 use borrow.Author.Tests.{ne-eqb}
 use lib.ListN.{length}
 use Rattle.rules.specs.Refusals.{runAnswer}
@@ -26,4 +25,15 @@ unfolding runCall runNumber
 returns-2 c = rw (passed (c .before .before .before .before .before .before .before .before .before .before .before .before .before .before .before .before)) (c .before .before .before .before .before .before .before .before .before .before .accepted .ensures)
 
 pub run-spec : {M : Type 1} → statement M
-run-spec = tie.close (tie.spec (search needs) returns accepted-requires (search needs) (search needs) (search needs) (search needs) (search needs) returns-2)
+run-spec =
+    tie.close
+    (tie.spec
+    (λ c κs. tt)
+    returns
+    accepted-requires
+    (λ c. c .before .before .before .before .before .before .before .before .before .before .accepted .kept .1 .1 .1 .1 .0)
+    (λ c. c .before .before .before .before .before .before .before .before .before .before .accepted .kept .1 .1 .1 .1 .1 .0)
+    (λ c. c .before .before .before .before .before .before .before .before .before .before .accepted .kept .1 .1 .1 .1 .1 .1 .0)
+    (λ c. c .before .before .before .before .before .before .before .before .before .before .accepted .kept .1 .1 .1 .1 .1 .1 .1 .0)
+    (λ c. c .before .before .before .before .before .before .before .before .before .before .accepted .kept .1 .1 .1 .1 .1 .1 .1 .1 .0)
+    returns-2)

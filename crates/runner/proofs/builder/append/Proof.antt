@@ -1,44 +1,67 @@
-use mathlib.Core.Path.{_∙_}
+use mathlib.Core.Path.{_≡_, ap, _∙_}
+use mathlib.Core.List.{List}
+use Prim.Native.Nat.{ℕ, _+_, _≤_, _<_}
 use native.Mathlib.Omega.{arith}
-use borrow.Author.Needs.{needs}
+use lib.Dec.{T, eqb}
+use lib.ListN.{length, getD, set}
+use Rattle.rules.specs.Base.{if_then_else_}
+use Rattle.rules.specs.State.{Cluster, withCluster}
+use Rattle.rules.specs.State as rules
+use Rattle.rules.specs.Layout.{walk}
+use Rattle.rules.specs.Paint.{reads}
+use Rattle.color.specs.Colors.{sumOf}
+use Rattle.runner.specs.declared.slot.Head.{Head}
+use Rattle.runner.specs.Slots.{Adds, headAt, headOf, savedHead}
+use Rattle.runner.specs.Rep.{linkAfter}
+use Rattle.runner.specs.Ops.{CanAppend, Appended}
+use Rattle.runner.proofs.Widths.{offset-fits}
 use Rattle.runner.proofs.builder.append.Statement.{statement}
 use Rattle.runner.proofs.builder.append.Tie as tie
 
-relabel-requires : tie.Need-relabel-requires
-relabel-requires c κs =
-    let p = c .before .before .before .before .before .before .before .before .before .before .pre in
-    rw (c .before .before .before .before .load-head .ensures) (p .links, p .list)
+-- with the heads that are loaded
+module _ {f t : ℕ} {L K B E : List ℕ} {from : Head} (given : from ≡ headAt B f) where
+  -- what relabelling asks
+  asks-list : CanAppend f t L K B E → (length L ≤ length K) × T (reads (length L) K (from .first) (from .count))
+  asks-list p = rw given (p .links, p .list)
 
-link-after-requires : tie.Need-link-after-requires
-link-after-requires c κs =
-    let to = c .before .before .before .before .before .before .before in
-    rw (to .load-head2 .ensures) (to .before .before .before .before .before .before .before .before .pre .to .tail)
+  module _ {to : Head} (met : to ≡ headAt B t) where
+    -- what linking asks
+    asks-link : CanAppend f t L K B E → 0 < to .count → (0 < getD E t 0) × (getD E t 0 ≤ length K)
+    asks-link p = rw met (p .to .tail)
 
-with-cluster-requires : tie.Need-with-cluster-requires
-with-cluster-requires c κs =
-    let to = c .before .before .before .before .before .before .before .before .before .before .before .before .before .before .before in
-    let from = to .before .before in
-    let p = from .before .before .before .before .before .before .pre in
-    rw (from .load-head .ensures, to .load-head2 .ensures) (omega (arith, p .from .count, p .to .count), p .sum)
+    -- what adding the heads asks
+    asks-sum : CanAppend f t L K B E → (to .count + from .count < 4000000) × Adds (sumOf (to .sum)) (sumOf (from .sum))
+    asks-sum p = rw (given, met) (omega (arith, p .from .count, p .to .count), p .sum)
 
-save-head-requires : tie.Need-save-head-requires
-save-head-requires c κs = c .before .before .before .before .before .before .before .before .before .before .before .before .before .before .before .before .before .before .before .before .before .before .before .before .pre .to .slot
+    -- the list is appended
+    appended : {L′ K′ B′ E′ : List ℕ} {r : Head} → L′ ≡ rules.relabel t (walk (λ p. getD K p 0) (from .first) (from .count)) L → K′ ≡ linkAfter K (to .count) (getD E t 0) (from .first)
+        → ((a b : Cluster) → to ≡ headOf a → from ≡ headOf b → r ≡ headOf (withCluster b a)) → B′ ≡ savedHead B t r → E′ ≡ (if eqb (from .count) 0 then E else set E t (getD E f 0))
+        → Appended f t L K B E L′ K′ B′ E′
+    appended relabelled linked joined saved moved = record {
+      labels = rw (← given) relabelled;
+      links = rw (← given, ← met) linked;
+      table = λ a b p q. saved ∙ ap (savedHead B t) (joined a b (met ∙ p) (given ∙ q));
+      ends = rw (← given) moved;
+    }
 
 returns : tie.Need-returns
-returns c =
-    let moved = c .before .before .before .before .before .before .before in
-    let linked = moved .before .before .before .before in
-    let relabelled = linked .before .before .before .before .before in
-    let to = relabelled .before .before .before .load-head2 .ensures in
-    let from = relabelled .before .before .before .before .before .load-head .ensures in
-    record {
-      labels = rw (← from) (relabelled .relabel .ensures);
-      links = rw (← from, ← to) (linked .link-after .ensures);
-      table = λ a b p q. rw (← c .before .before .before .with-cluster .ensures a b (to ∙ p) (from ∙ q)) (c .before .before .save-head .ensures);
-      ends = rw (← from) (moved .move-tail .ensures);
-    }
+returns c = appended (c .before .before .before .before .before .before .before .before .before .before .before .before .before .before .before .before .before .before .before .before .before .load-head .ensures) (c .before .before .before .before .before .before .before .before .before .before .before .before .before .before .before .before .before .before .before .load-head2 .ensures) (c .before .before .before .before .before .before .before .before .before .before .before .before .before .before .before .before .relabel .ensures) (c .before .before .before .before .before .before .before .before .before .before .before .link-after .ensures) (c .before .before .before .with-cluster .ensures) (c .before .before .save-head .ensures) (c .before .before .before .before .before .before .before .move-tail .ensures)
 
 pub append-spec : {M : Type 1} → statement M
 append-spec =
     tie.close
-    (tie.spec (search needs) (search needs) relabel-requires (search needs) (search needs) link-after-requires (search needs) with-cluster-requires save-head-requires (search needs) (search needs) (search needs) (search needs) returns)
+    (tie.spec
+    (λ c κs. c .before .before .before .before .before .pre .from .slot)
+    (λ c κs. c .before .before .before .before .before .before .before .pre .to .slot)
+    (λ c κs. asks-list (c .before .before .before .before .load-head .ensures) (c .before .before .before .before .before .before .before .before .before .before .pre))
+    (λ c. offset-fits (c .before .before .before .before .before .before .before .before .before .before .before .before .before .before .fits .t))
+    (λ c. c .before .before .before .before .before .before .before .before .before .before .before .before .before .before .before .pre .to .end)
+    (λ c κs. asks-link (c .before .before .before .before .before .before .before .before .before .load-head .ensures) (c .before .before .before .before .before .before .before .load-head2 .ensures) (c .before .before .before .before .before .before .before .before .before .before .before .before .before .before .before .pre))
+    (λ c κs. (c .before .before .before .before .before .before .before .before .before .before .before .before .before .before .before .before .before .before .before .pre .from .end, c .before .before .before .before .before .before .before .before .before .before .before .before .before .before .before .before .before .before .before .pre .to .end))
+    (λ c κs. asks-sum (c .before .before .before .before .before .before .before .before .before .before .before .before .before .before .before .before .before .load-head .ensures) (c .before .before .before .before .before .before .before .before .before .before .before .before .before .before .before .load-head2 .ensures) (c .before .before .before .before .before .before .before .before .before .before .before .before .before .before .before .before .before .before .before .before .before .before .before .pre))
+    (λ c κs. c .before .before .before .before .before .before .before .before .before .before .before .before .before .before .before .before .before .before .before .before .before .before .before .before .pre .to .slot)
+    (λ c. c .before .before .before .before .before .before .before .before .before .before .before .before .before .before .before .before .relabel .kept .0)
+    (λ c. c .before .before .before .before .before .before .before .before .before .before .before .link-after .kept .0)
+    (λ c. c .before .before .save-head .kept .0)
+    (λ c. c .before .before .before .before .before .before .before .move-tail .kept .0)
+    returns)

@@ -1,31 +1,41 @@
-use native.Mathlib.Omega.{arith}
-use borrow.Author.Needs.{needs}
-use lib.ListN.{length-set}
+use mathlib.Core.Path.{ap}
+use mathlib.Core.List.{List}
+use Prim.Native.Nat.{ℕ, _+_, _*_}
+use lib.ListN.{getD, set, length-set}
+use Rattle.rules.proofs.Fits.{slot-fits, slot-offset, slot-in}
+use Rattle.runner.specs.Ops.{Appended, Deepened}
+use Rattle.runner.proofs.Widths.{slot-begins, next-fits, slot-kept}
 use Rattle.runner.proofs.builder.deepen.Statement.{statement}
 use Rattle.runner.proofs.builder.deepen.Tie as tie
 
-append-requires : tie.Need-append-requires
-append-requires c κs = search needs
+-- the list is appended, and the two numbers are stored
+deepened : {f t : ℕ} {L K B E L′ K′ B′ E′ : List ℕ} → Appended f t L K B E L′ K′ B′ E′ → Deepened f t L K B E L′ K′ (set (set B′ (21 * f + 16) t) (21 * t + 17) (getD B (21 * t + 17) 0 + 1)) E′
+deepened {f} {t} {L} {K} {B} a = record { labels = a .labels; links = a .links; table = λ x y p q. ap (λ z. set (set z (21 * f + 16) t) (21 * t + 17) (getD B (21 * t + 17) 0 + 1)) (a .table x y p q); ends = a .ends }
 
-slice-write-table-2 : tie.Need-slice-write-table-2
-slice-write-table-2 c =
-    let appended = c .before .before .before .before .before .before .before .before in
-    simp length-set (omega (arith, appended .append .kept, appended .before .before .before .before .before .before .before .before .before .before .pre .append .to .slot))
-
-same-length-3 : tie.Need-same-length-3
-same-length-3 c = simp length-set (c .before .before .before .before .before .before .before .before .append .kept .1 .1 .0)
-
-returns : tie.Need-returns
-returns c =
-    let appended = c .before .before .before .before .before .before .before .before .append .ensures in
-    record {
-      labels = appended .labels;
-      links = appended .links;
-      table = λ a b p q. rw (← appended .table a b p q);
-      ends = appended .ends;
-    }
+-- where the two are stored
+abbrev start : tie.After-slice-known9 → tie.Start
+start c = c .before .before .before .before .before .before .before .before .before .before .before .before .before .before .before .before .before .before
 
 pub deepen-spec : {M : Type 1} → statement M
 deepen-spec =
     tie.close
-    (tie.spec (search needs) (search needs) (search needs) (search needs) append-requires (search needs) (search needs) (search needs) (search needs) (search needs) (search needs) (search needs) (search needs) slice-write-table-2 (search needs) (search needs) same-length-3 (search needs) returns)
+    (tie.spec
+    (λ c. slot-begins (c .before .before .before .before .fits .t))
+    (λ c. slot-fits (c .before .before .before .before .fits .t) 17 tt)
+    (λ c. slot-offset (c .before .before .before .before .fits .t) 17 tt)
+    (λ c. slot-in _ (c .before .before .before .before .before .pre .append .to .slot) 17 tt)
+    (λ c κs. c .before .before .before .before .before .before .before .before .before .pre .append)
+    (λ c. slot-begins (start c .fits .f))
+    (λ c. slot-fits (start c .fits .f) 16 tt)
+    (λ c. slot-offset (start c .fits .f) 16 tt)
+    (λ c. slot-kept _ (c .before .before .before .before .before .before .before .before .append .kept .1 .1 .0) (start c .pre .append .from .slot) 16 tt)
+    (λ c. next-fits (start c .pre .depth))
+    (λ c. slot-begins (start c .fits .t))
+    (λ c. slot-fits (start c .fits .t) 17 tt)
+    (λ c. slot-offset (start c .fits .t) 17 tt)
+    (λ c. simp length-set (slot-kept _ (c .before .before .before .before .before .before .before .before .append .kept .1 .1 .0) (start c .pre .append .to .slot) 17 tt))
+    (λ c. c .before .before .before .before .before .before .before .before .append .kept .0)
+    (λ c. c .before .before .before .before .before .before .before .before .append .kept .1 .0)
+    (λ c. simp length-set (c .before .before .before .before .before .before .before .before .append .kept .1 .1 .0))
+    (λ c. c .before .before .before .before .before .before .before .before .append .kept .1 .1 .1 .0)
+    (λ c. deepened (c .before .before .before .before .before .before .before .before .append .ensures)))

@@ -1,4 +1,4 @@
-use borrow.Author.Needs.{needs}
+use mathlib.Core.Path.{_∙_}
 use Rattle.runner.proofs.Ops.{residue-append}
 use Rattle.runner.proofs.builder.merge.Statement.{statement}
 use Rattle.runner.proofs.builder.merge.Tie as tie
@@ -25,4 +25,14 @@ returns c =
 pub merge-spec : {M : Type 1} → statement M
 merge-spec =
     tie.close
-    (tie.spec (search needs) (search needs) plus-requires (search needs) combine-requires (search needs) (search needs) (search needs) (search needs) returns)
+    (tie.spec
+    (λ c κs. c .before .before .before .before .before .pre .append .to .slot)
+    (λ c κs. c .before .before .before .before .before .before .before .pre .append .from .slot)
+    plus-requires
+    (λ c κs. c .before .before .before .before .before .before .before .before .before .before .pre .append .to .slot)
+    combine-requires
+    (λ c. c .before .before .before .before .before .before .before .before .combine .kept .0)
+    (λ c. c .before .before .before .before .before .before .before .before .combine .kept .1 .0)
+    (λ c. c .before .before .before .before .before .before .before .before .combine .kept .1 .1 .0 ∙ c .before .before .before .before .before .before .before .before .before .before .before .before .before .before .before .save-residue .kept .0)
+    (λ c. c .before .before .before .before .before .before .before .before .combine .kept .1 .1 .1 .0)
+    returns)

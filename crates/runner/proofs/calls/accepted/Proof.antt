@@ -1,10 +1,11 @@
 use mathlib.Core.Path.{_≡_, _∙_}
 use Prim.Native.Nat.{ℕ, _+_, _*_, _≤_}
 use native.Mathlib.Omega.{arith}
-use borrow.Author.Needs.{needs}
+use borrow.Author.Needs.{zero≤}
 use lib.ListN.{length, getD}
 use Rattle.rules.specs.Calls.{Buffers}
 use Rattle.runner.specs.Types.{configOf}
+use Rattle.runner.proofs.Widths.{within, size-fits, size-widens, room-fits, room-eight, eight-in}
 use Rattle.runner.proofs.Runs.{can-run, can-finish, ran}
 use Rattle.runner.proofs.calls.accepted.Statement.{statement}
 use Rattle.runner.proofs.calls.accepted.Tie as tie
@@ -41,6 +42,25 @@ returns c =
 pub accepted-spec : {M : Type 1} → statement M
 accepted-spec =
     tie.close
-    (tie.spec (search needs) (search needs) (search needs) (search needs) (search needs) (search needs) (search needs) (search needs) (search needs) (search needs) (search needs) (search needs) (search needs)
-    both-stages-requires finish-requires
-    (search needs) (search needs) (search needs) (search needs) (search needs) returns)
+    (tie.spec
+    (λ c. size-fits (within (c .before .before .before .before .before .before .pre .size .small)))
+    (λ c. size-widens (within (c .before .before .before .before .before .before .pre .size .small)))
+    (λ c. room-fits (within (c .before .before .before .before .before .before .pre .size .small)))
+    (λ c. zero≤)
+    (λ c. zero≤)
+    (λ c. c .before .before .before .before .before .before .pre .labels-fit)
+    (λ c. zero≤)
+    (λ c. zero≤)
+    (λ c. c .before .before .before .before .before .before .before .pre .links-fit)
+    (λ c. room-eight (within (c .before .before .before .before .before .before .before .before .before .pre .size .small)))
+    (λ c. zero≤)
+    (λ c. zero≤)
+    (λ c. eight-in _ (c .before .before .before .before .before .before .before .before .before .pre .work-fits))
+    both-stages-requires
+    finish-requires
+    (λ c. c .before .before .before .before .before .before .before .before .before .before .before .before .before .before .before .labels .given .1)
+    (λ c. c .before .before .before .before .before .before .before .before .before .before .before .before .before .links .given .1)
+    (λ c. c .before .before .before .before .before .before .before .before .before .before .before .before .before .before .before .before .both-stages .kept .1 .1 .1 .0)
+    (λ c. c .before .before .before .before .finish .kept .1 .0)
+    (λ c. c .before .before .before .before .finish .kept .1 .1 .0 ∙ c .before .before .before .before .before .before .before .before .before .work .given .1)
+    returns)

@@ -1,7 +1,7 @@
 use mathlib.Core.Path.{ap, _∙_}
 use Prim.Native.Nat.{_*_}
-use borrow.Author.Needs.{needs}
 use Rattle.runner.specs.Stage2.{withPart}
+use Rattle.runner.proofs.Widths.{five-fits, six-fits, five-offset, five-six, six-in, small-fits}
 use Rattle.runner.proofs.Runs.{no-marks}
 use Rattle.runner.proofs.calls.blank.Statement.{statement}
 use Rattle.runner.proofs.calls.blank.Tie as tie
@@ -20,4 +20,19 @@ returns c =
     }
 
 pub blank-spec : {M : Type 1} → statement M
-blank-spec = tie.close (tie.spec (search needs) (search needs) (search needs) (search needs) (search needs) (search needs) (search needs) (search needs) (search needs) (search needs) (search needs) (search needs) returns)
+blank-spec =
+    tie.close
+    (tie.spec
+    (λ c κs. tt)
+    (λ c κs. tt)
+    (λ c. five-fits (small-fits (c .before .before .before .before .before .before .before .before .before .before .before .pre .1)))
+    (λ c. six-fits (small-fits (c .before .before .before .before .before .before .before .before .before .before .before .pre .1)))
+    (λ c. five-offset (small-fits (c .before .before .before .before .before .before .before .before .before .before .before .pre .1)))
+    (λ c. five-six _)
+    (λ c. five-six _)
+    (λ c. six-in _ (c .before .before .before .before .before .before .before .before .before .before .before .pre .0))
+    (λ c κs. tt)
+    (λ c. c .before .before .before .before .before .before .before .before .before .before .clear .kept .0)
+    (λ c. c .before .before .before .before .before .before .clear2 .kept .0)
+    (λ c. c .before .work .given .1)
+    returns)

@@ -1,15 +1,15 @@
-use borrow.Author.Needs.{needs}
+use mathlib.Core.Path.{_∙_}
 use Rattle.runner.proofs.calls.both_stages.Statement.{statement}
 use Rattle.runner.proofs.calls.both_stages.Tie as tie
 
-label-image-requires : tie.Need-label-image-requires
-label-image-requires c κs = search needs
-
-stage-2-requires : tie.Need-stage-2-requires
-stage-2-requires c κs = let E = c .before .before .before .before .before .before .before .before .before .before .before .before .label-image .ensures in (E .1, (_, E .0))
-
-returns : tie.Need-returns
-returns c = c .before .before .before .before .before .before .before .before .stage-2 .ensures _ (c .before .before .before .before .before .before .before .before .before .before .before .before .before .before .before .before .before .before .before .before .before .label-image .ensures .0)
-
 pub both-stages-spec : {M : Type 1} → statement M
-both-stages-spec = tie.close (tie.spec label-image-requires stage-2-requires (search needs) (search needs) (search needs) (search needs) returns)
+both-stages-spec =
+    tie.close
+    (tie.spec
+    (λ c κs. c .before .before .before .before .before .before .before .before .before .pre)
+    (λ c κs. let E = c .before .before .before .before .before .before .before .before .before .before .before .before .label-image .ensures in (E .1, (_, E .0)))
+    (λ c. c .before .before .before .before .before .before .before .before .stage-2 .kept .1 .0 ∙ c .before .before .before .before .before .before .before .before .before .before .before .before .before .before .before .before .before .before .before .before .before .label-image .kept .1 .0)
+    (λ c. c .before .before .before .before .before .before .before .before .stage-2 .kept .1 .1 .0 ∙ c .before .before .before .before .before .before .before .before .before .before .before .before .before .before .before .before .before .before .before .before .before .label-image .kept .1 .1 .0)
+    (λ c. c .before .before .before .before .before .before .before .before .stage-2 .kept .1 .1 .1 .0 ∙ c .before .before .before .before .before .before .before .before .before .before .before .before .before .before .before .before .before .before .before .before .before .label-image .kept .1 .1 .1 .0)
+    (λ c. c .before .before .before .before .before .before .before .before .stage-2 .kept .1 .1 .1 .1 .0 ∙ c .before .before .before .before .before .before .before .before .before .before .before .before .before .before .before .before .before .before .before .before .before .label-image .kept .1 .1 .1 .1 .0)
+    (λ c. c .before .before .before .before .before .before .before .before .stage-2 .ensures _ (c .before .before .before .before .before .before .before .before .before .before .before .before .before .before .before .before .before .before .before .before .before .label-image .ensures .0)))

@@ -1,53 +1,40 @@
 use mathlib.Core.Path.{_≡_, refl, ap₂, _∙_}
+use Prim.Native.Nat.{ℕ, _+_, _*_, _<_}
 use native.Mathlib.Omega.{arith}
 use lib.ListN.{length-set}
-use borrow.Author.Needs.{needs}
-use Rattle.runner.specs.Queue.{firstOf, firstBelow}
+use mir.Syntax.{w64}
+use mir.Val.{Fits}
+use Rattle.runner.specs.Queue.{Sized, firstOf, firstBelow}
 use Rattle.runner.proofs.Tournament.{stored-node, kept-node}
 use Rattle.runner.proofs.queue.refresh.Statement.{statement}
 use Rattle.runner.proofs.queue.refresh.Tie as tie
 
-mul-at : tie.Need-mul-at
-mul-at c = search needs
+-- node j stands at room + 2 × j and the place after it, and its children are below 2 × n
+record Node (n room long j : ℕ) : Type 0 where
+  twice : Fits w64 (2 * j)
+  twice-next : Fits w64 (2 * j + 1)
+  left : 2 * j < 2 * n
+  right : 2 * j + 1 < 2 * n
+  key : Fits w64 (room + 2 * j)
+  key-offset : Fits w64 ((room + 2 * j) * 4)
+  key-in : room + 2 * j < long
+  slot : Fits w64 (room + 2 * j + 1)
+  slot-offset : Fits w64 ((room + 2 * j + 1) * 4)
+  slot-in : room + 2 * j + 1 < long
 
-at-requires : tie.Need-at-requires
-at-requires c κs = search needs
-
-mul-at-2 : tie.Need-mul-at-2
-mul-at-2 c = search needs
-
-add-at : tie.Need-add-at
-add-at c = search needs
-
-at-requires-2 : tie.Need-at-requires-2
-at-requires-2 c κs = search needs
-
-first-of-requires : tie.Need-first-of-requires
-first-of-requires c κs = search needs
-
-mul-p : tie.Need-mul-p
-mul-p c = search needs
-
-add-p : tie.Need-add-p
-add-p c = search needs
-
-mul-if1 : tie.Need-mul-if1
-mul-if1 c = search needs
-
-slice-read-if1 : tie.Need-slice-read-if1
-slice-read-if1 c = search needs
-
-add-if1 : tie.Need-add-if1
-add-if1 c = search needs
-
-mul-if1-2 : tie.Need-mul-if1-2
-mul-if1-2 c = search needs
-
-slice-read-if1-2 : tie.Need-slice-read-if1-2
-slice-read-if1-2 c = search needs
-
-same-length : tie.Need-same-length
-same-length c = search needs
+node : {n room long j : ℕ} → Sized n room long → j < n → Node n room long j
+node S l = record {
+  twice = omega arith;
+  twice-next = omega arith;
+  left = omega arith;
+  right = omega arith;
+  key = omega arith;
+  key-offset = omega arith;
+  key-in = omega arith;
+  slot = omega arith;
+  slot-offset = omega arith;
+  slot-in = omega arith;
+}
 
 -- what is to stand at the node
 chosen : (c : tie.After-first-of) → let a = c .before .before .before .before .before .before .args in c .first-of .result ≡ firstBelow (a .queue .now) (a .n) (a .room) (a .j)
@@ -56,24 +43,6 @@ chosen c = c .first-of .ensures ∙ ap₂ firstOf (c .before .before .before .at
 returns : tie.Need-returns
 returns c = record { made = kept-node _ _ _ _ _ (chosen (c .before .before .before .before .before)) (c .if1 .taken); kept = λ z. refl }
 
-mul-queue : tie.Need-mul-queue
-mul-queue c = search needs
-
-slice-write-queue : tie.Need-slice-write-queue
-slice-write-queue c = search needs
-
-add-queue : tie.Need-add-queue
-add-queue c = search needs
-
-mul-queue-2 : tie.Need-mul-queue-2
-mul-queue-2 c = search needs
-
-slice-write-queue-2 : tie.Need-slice-write-queue-2
-slice-write-queue-2 c = simp length-set (omega arith)
-
-same-length-2 : tie.Need-same-length-2
-same-length-2 c = search needs
-
 returns-2 : tie.Need-returns-2
 returns-2 c = record { made = stored-node _ _ _ _ _ (chosen (c .before .before .before .before .before)); kept = λ z. cc }
 
@@ -81,25 +50,25 @@ pub refresh-spec : {M : Type 1} → statement M
 refresh-spec =
     tie.close
     (tie.spec
-    mul-at
-    at-requires
-    mul-at-2
-    add-at
-    at-requires-2
-    first-of-requires
-    mul-p
-    add-p
-    mul-if1
-    slice-read-if1
-    add-if1
-    mul-if1-2
-    slice-read-if1-2
-    same-length
+    (λ c. node (c .before .before .pre .0) (c .before .before .pre .1) .twice)
+    (λ c κs. (c .before .before .pre .0, node (c .before .before .pre .0) (c .before .before .pre .1) .left))
+    (λ c. node (c .before .before .before .before .pre .0) (c .before .before .before .before .pre .1) .twice)
+    (λ c. node (c .before .before .before .before .pre .0) (c .before .before .before .before .pre .1) .twice-next)
+    (λ c κs. (c .before .before .before .before .pre .0, node (c .before .before .before .before .pre .0) (c .before .before .before .before .pre .1) .right))
+    (λ c κs. tt)
+    (λ c. node (c .before .before .before .before .before .before .pre .0) (c .before .before .before .before .before .before .pre .1) .twice)
+    (λ c. node (c .before .before .before .before .before .before .pre .0) (c .before .before .before .before .before .before .pre .1) .key)
+    (λ c. node (c .before .before .before .before .before .before .pre .0) (c .before .before .before .before .before .before .pre .1) .key-offset)
+    (λ c. node (c .before .before .before .before .before .before .before .pre .0) (c .before .before .before .before .before .before .before .pre .1) .key-in)
+    (λ c. node (c .before .before .before .before .before .before .before .before .pre .0) (c .before .before .before .before .before .before .before .before .pre .1) .slot)
+    (λ c. node (c .before .before .before .before .before .before .before .before .pre .0) (c .before .before .before .before .before .before .before .before .pre .1) .slot-offset)
+    (λ c. node (c .before .before .before .before .before .before .before .before .before .pre .0) (c .before .before .before .before .before .before .before .before .before .pre .1) .slot-in)
+    (λ c. refl)
     returns
-    mul-queue
-    slice-write-queue
-    add-queue
-    mul-queue-2
-    slice-write-queue-2
-    same-length-2
+    (λ c. node (c .before .before .before .before .before .before .before .before .before .before .before .pre .0) (c .before .before .before .before .before .before .before .before .before .before .before .pre .1) .key-offset)
+    (λ c. node (c .before .before .before .before .before .before .before .before .before .before .before .pre .0) (c .before .before .before .before .before .before .before .before .before .before .before .pre .1) .key-in)
+    (λ c. node (c .before .before .before .before .before .before .before .before .before .before .before .pre .0) (c .before .before .before .before .before .before .before .before .before .before .before .pre .1) .slot)
+    (λ c. node (c .before .before .before .before .before .before .before .before .before .before .before .pre .0) (c .before .before .before .before .before .before .before .before .before .before .before .pre .1) .slot-offset)
+    (λ c. simp length-set (node (c .before .before .before .before .before .before .before .before .before .before .before .pre .0) (c .before .before .before .before .before .before .before .before .before .before .before .pre .1) .slot-in))
+    (λ c. simp length-set)
     returns-2)

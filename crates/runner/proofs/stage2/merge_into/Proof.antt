@@ -1,11 +1,8 @@
-use native.Mathlib.Omega.{arith}
-use borrow.Author.Needs.{needs}
-use Rattle.runner.proofs.Visiting.{own-fits, lengths-fit, deepens-told, deepens-reads, diff-told, merge-asks, merged-grows, merged-visited}
+use Rattle.runner.proofs.Visiting.{own-fits, lengths-fit, deepens-told, deepens-reads, diff-told}
+use Rattle.runner.proofs.Widths.{thrice-fits, five-fits, thrice-offset, three-five, five-in, same-long}
+use Rattle.runner.proofs.Rooms.{can-put, merge-asks, merged-grows, merged-visited}
 use Rattle.runner.proofs.stage2.merge_into.Statement.{statement}
 use Rattle.runner.proofs.stage2.merge_into.Tie as tie
-
-first-pixel-requires : tie.Need-first-pixel-requires
-first-pixel-requires c κs = own-fits (c .before .before .before .before .before .before .pre .1 .0 .1)
 
 deepens-requires : tie.Need-deepens-requires
 deepens-requires c κs =
@@ -39,40 +36,33 @@ returns c = λ t₀ v.
       deepens = deepens-told v (s .pre .1 .1) _ (c .before .before .before .before .before .before .before .before .before .before .before .before .before .before .before .before .before .first-pixel .ensures) (c .before .before .before .before .before .before .before .before .before .before .before .before .before .before .deepens .ensures) (c .before .before .before .before .before .before .before .before .before .before .before .before .before .if1 .taken);
     })
 
-merge-requires : tie.Need-merge-requires
-merge-requires c κs = let p = c .before .before .before .before .before .before .before .before .before .before .before .before .before .before .before .pre in rw (p .0) (merge-asks (p .1 .0 .1) (p .1 .1))
-
-grown-requires : tie.Need-grown-requires
-grown-requires c κs = let p = c .before .before .before .before .before .before .before .before .before .before .before .before .before .before .before .before .before .before .before .before .before .before .before .before .before .before .pre in rw (p .0) (merged-grows (p .1 .0 .1) (p .1 .1) (rw (p .0) at (c .before .before .before .before .before .before .before .before .before .before .merge .ensures)))
-
 returns-2 : tie.Need-returns-2
 returns-2 c = λ t₀ v.
     let p = c .before .before .before .before .before .before .before .before .before .before .before .before .before .before .before .before .before .before .before .before .before .before .before .before .before .before .before .before .before .pre in
-    merged-visited v (p .1 .1) (rw (p .0) at (c .before .before .before .before .before .before .before .before .before .before .before .before .before .merge .ensures)) (deepens-told v (p .1 .1) _ (c .before .before .before .before .before .before .before .before .before .before .before .before .before .before .before .before .before .before .before .before .before .before .first-pixel .ensures) (c .before .before .before .before .before .before .before .before .before .before .before .before .before .before .before .before .before .before .before .deepens .ensures) (c .before .before .before .before .before .before .before .before .before .before .before .before .before .before .before .before .before .before .if1 .left)) (omega arith)
-    (rw (p .0) at (c .before .before .grown .ensures))
+    merged-visited (p .0) v (p .1 .1) (c .before .before .before .before .before .before .before .before .before .before .before .before .before .merge .ensures) (deepens-told v (p .1 .1) _ (c .before .before .before .before .before .before .before .before .before .before .before .before .before .before .before .before .before .before .before .before .before .before .first-pixel .ensures) (c .before .before .before .before .before .before .before .before .before .before .before .before .before .before .before .before .before .before .before .deepens .ensures) (c .before .before .before .before .before .before .before .before .before .before .before .before .before .before .before .before .before .before .if1 .left)) (c .before .before .grown .ensures)
 
 pub merge-into-spec : {M : Type 1} → statement M
 merge-into-spec =
     tie.close
     (tie.spec
-    first-pixel-requires
+    (λ c κs. own-fits (c .before .before .before .before .before .before .pre .1 .0 .1))
     deepens-requires
     deepen-into-requires
-    (search needs)
-    (search needs)
-    (search needs)
-    (search needs)
+    (λ c. c .before .before .before .before .before .before .before .before .deepen-into .kept .0)
+    (λ c. c .before .before .before .before .before .before .before .before .deepen-into .kept .1 .0)
+    (λ c. c .before .before .before .before .before .before .before .before .deepen-into .kept .1 .1 .0)
+    (λ c. c .before .before .before .before .before .before .before .before .deepen-into .kept .1 .1 .1 .0)
     returns
-    (search needs)
-    (search needs)
-    (search needs)
-    (search needs)
-    (search needs)
-    (search needs)
-    merge-requires
-    grown-requires
-    (search needs)
-    (search needs)
-    (search needs)
-    (search needs)
+    (λ c. thrice-fits (c .before .before .before .before .before .before .before .before .before .before .before .before .before .before .fits .room))
+    (λ c. five-fits (c .before .before .before .before .before .before .before .before .before .before .before .before .before .before .fits .room))
+    (λ c. thrice-offset (c .before .before .before .before .before .before .before .before .before .before .before .before .before .before .fits .room))
+    (λ c. three-five (c .before .before .before .before .before .before .before .before .before .before .before .before .before .before .args .room))
+    (λ c. three-five (c .before .before .before .before .before .before .before .before .before .before .before .before .before .before .args .room))
+    (λ c. five-in _ (can-put (c .before .before .before .before .before .before .before .before .before .before .before .before .before .before .pre .0) (c .before .before .before .before .before .before .before .before .before .before .before .before .before .before .pre .1 .0 .1) .long))
+    (λ c κs. merge-asks (c .before .before .before .before .before .before .before .before .before .before .before .before .before .before .before .pre .0) (c .before .before .before .before .before .before .before .before .before .before .before .before .before .before .before .pre .1 .0 .1) (c .before .before .before .before .before .before .before .before .before .before .before .before .before .before .before .pre .1 .1))
+    (λ c κs. merged-grows (c .before .before .before .before .before .before .before .before .before .before .before .before .before .before .before .before .before .before .before .before .before .before .before .before .before .before .pre .0) (c .before .before .before .before .before .before .before .before .before .before .before .before .before .before .before .before .before .before .before .before .before .before .before .before .before .before .pre .1 .0 .1) (c .before .before .before .before .before .before .before .before .before .before .before .before .before .before .before .before .before .before .before .before .before .before .before .before .before .before .pre .1 .1) (c .before .before .before .before .before .before .before .before .before .before .merge .ensures))
+    (λ c. c .before .before .before .before .before .before .before .before .before .before .before .before .before .merge .kept .0)
+    (λ c. c .before .before .before .before .before .before .before .before .before .before .before .before .before .merge .kept .1 .0)
+    (λ c. c .before .before .before .before .before .before .before .before .before .before .before .before .before .merge .kept .1 .1 .0)
+    (λ c. same-long (c .before .before .grown .kept .1 .0) (merged-grows (c .before .before .before .before .before .before .before .before .before .before .before .before .before .before .before .before .before .before .before .before .before .before .before .before .before .before .before .before .before .pre .0) (c .before .before .before .before .before .before .before .before .before .before .before .before .before .before .before .before .before .before .before .before .before .before .before .before .before .before .before .before .before .pre .1 .0 .1) (c .before .before .before .before .before .before .before .before .before .before .before .before .before .before .before .before .before .before .before .before .before .before .before .before .before .before .before .before .before .pre .1 .1) (c .before .before .before .before .before .before .before .before .before .before .before .before .before .merge .ensures) .long) (can-put (c .before .before .before .before .before .before .before .before .before .before .before .before .before .before .before .before .before .before .before .before .before .before .before .before .before .before .before .before .before .pre .0) (c .before .before .before .before .before .before .before .before .before .before .before .before .before .before .before .before .before .before .before .before .before .before .before .before .before .before .before .before .before .pre .1 .0 .1) .long))
     returns-2)

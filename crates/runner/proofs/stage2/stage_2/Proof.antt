@@ -1,13 +1,14 @@
-use mathlib.Core.Path.{_≡_, refl, _∙_}
+use mathlib.Core.Path.{_≡_, refl, sym, _∙_}
 use mathlib.Core.List.{List}
-use Prim.Native.Nat.{ℕ, _-_, _*_}
+use Prim.Native.Nat.{ℕ, _+_, _-_, _*_, _<_}
 use native.Mathlib.Omega.{arith}
 use lib.ListN.{length}
-use borrow.Author.Needs.{needs}
+use borrow.Author.Needs.{needs, zero≤}
 use Rattle.rules.specs.Color.{RunnerConfig}
 use Rattle.runner.specs.declared.stage2.Turns.{Turns}
 use Rattle.runner.specs.Types.{configOf}
 use Rattle.runner.specs.Stage2.{Between}
+use Rattle.runner.proofs.Widths.{size-fits, room-narrow, room-fits, room-thrice, thrice-in}
 use Rattle.runner.proofs.Starting.{preparing-fits, building, started}
 use Rattle.runner.proofs.Turning.{picking, chooses, ends, turns-left}
 use Rattle.runner.proofs.stage2.stage_2.Statement.{statement}
@@ -21,6 +22,10 @@ record Running (o : RunnerConfig) (w h : ℕ) (image L₀ K₀ B₀ W₀ : List 
   links : length K ≡ length K₀
   table : length B ≡ length B₀
 
+-- one turn fewer is left
+fewer : {l m n : ℕ} → m ≡ n + 1 → n < l → l - m < l - n
+fewer e f = omega arith
+
 abbrev Inv-loop : tie.InvT-loop
 Inv-loop image labels₀ links₀ table₀ work₀ o w h n room r largest t₀ labels links table work t = Running (configOf o) w h image labels₀ links₀ table₀ work₀ t₀ labels links table work t
 
@@ -28,28 +33,28 @@ abbrev μ-loop : tie.MeasureT-loop
 μ-loop image labels₀ links₀ table₀ work₀ o w h n room r largest t₀ labels links table work t = 2 * (w * h) - t .turns
 
 mul-room : tie.Need-mul-room Inv-loop μ-loop
-mul-room c = omega (arith, c .before .before .before .before .before .pre .0 .image-fits .small)
+mul-room c = size-fits (c .before .before .before .before .before .pre .0 .image-fits .small)
 
 add-room : tie.Need-add-room Inv-loop μ-loop
-add-room c = omega (arith, c .before .before .before .before .before .pre .0 .image-fits .small)
+add-room c = room-narrow (c .before .before .before .before .before .pre .0 .image-fits .small)
 
 cast-r : tie.Need-cast-r Inv-loop μ-loop
-cast-r c = omega (arith, c .before .before .before .before .before .pre .0 .image-fits .small)
+cast-r c = room-fits (c .before .before .before .before .before .pre .0 .image-fits .small)
 
 mul-prepare : tie.Need-mul-prepare Inv-loop μ-loop
-mul-prepare c = omega (arith, c .before .before .before .before .before .before .pre .0 .image-fits .small)
+mul-prepare c = room-thrice (c .before .before .before .before .before .before .pre .0 .image-fits .small)
 
 part-prepare-end : tie.Need-part-prepare-end Inv-loop μ-loop
-part-prepare-end c = omega (arith, c .before .before .before .before .before .before .pre .0 .work)
+part-prepare-end c = thrice-in _ (c .before .before .before .before .before .before .pre .0 .work)
 
 prepare-requires : tie.Need-prepare-requires Inv-loop μ-loop
 prepare-requires c κs = let p = c .before .before .before .before .before .before .before .pre in preparing-fits (p .0) (p .1 .1)
 
 mul-build : tie.Need-mul-build Inv-loop μ-loop
-mul-build c = omega (arith, c .before .before .before .before .before .before .before .before .before .before .before .before .pre .0 .image-fits .small)
+mul-build c = room-thrice (c .before .before .before .before .before .before .before .before .before .before .before .before .pre .0 .image-fits .small)
 
 part-build-end : tie.Need-part-build-end Inv-loop μ-loop
-part-build-end c = let p = c .before .before .before .before .before .before .before .before .before .before .before .before .pre in let s = c .before .before .before .before .prepare in omega (arith, building (p .0) (p .1 .1) (s .ensures) (s .kept .1 .0) .0)
+part-build-end c = let p = c .before .before .before .before .before .before .before .before .before .before .before .before .pre in let s = c .before .before .before .before .prepare in thrice-in _ (building (p .0) (p .1 .1) (s .ensures) (s .kept .1 .0) .0)
 
 build-requires : tie.Need-build-requires Inv-loop μ-loop
 build-requires c κs = let p = c .before .before .before .before .before .before .before .before .before .before .before .before .before .pre in let s = c .before .before .before .before .before .prepare in building (p .0) (p .1 .1) (s .ensures) (s .kept .1 .0) .1
@@ -68,10 +73,10 @@ loop-holds c =
     }
 
 mul-first : tie.Need-mul-first Inv-loop μ-loop
-mul-first c = omega (arith, c .loop .inv .some .1 .image-fits .small)
+mul-first c = room-thrice (c .loop .inv .some .1 .image-fits .small)
 
 part-first-end : tie.Need-part-first-end Inv-loop μ-loop
-part-first-end c = omega (arith, c .before .loop .inv .some .1 .carried .long)
+part-first-end c = thrice-in _ (c .before .loop .inv .some .1 .carried .long)
 
 first-requires : tie.Need-first-requires Inv-loop μ-loop
 first-requires c κs = picking (c .before .before .before .loop .inv .some .1)
@@ -86,7 +91,7 @@ same-length-3 : tie.Need-same-length-3 Inv-loop μ-loop
 same-length-3 c = c .before .before .before .before .before .before .loop .inv .table ∙ c .before .before .before .before .before .before .before .before .before .before .before .before .before .before .before .prepare .kept .0
 
 same-length-4 : tie.Need-same-length-4 Inv-loop μ-loop
-same-length-4 c = omega (arith, c .before .before .before .before .before .before .loop .inv .some .1 .carried .long, c .before .before .before .before .before .before .before .before .before .before .before .before .before .before .before .before .before .before .before .before .before .before .before .pre .0 .work)
+same-length-4 c = c .before .before .before .before .before .before .loop .inv .some .1 .carried .long ∙ sym (c .before .before .before .before .before .before .before .before .before .before .before .before .before .before .before .before .before .before .before .before .before .before .before .pre .0 .work)
 
 returns : tie.Need-returns Inv-loop μ-loop
 returns c = λ t₀ e.
@@ -100,7 +105,7 @@ turn-requires c κs = let i = c .before .before .before .before .before .before 
 loop-less : tie.Need-loop-less Inv-loop μ-loop
 loop-less c =
     let i = c .before .before .before .before .before .before .before .before .before .before .before .before .before .before .before .before .before .before .before .loop .inv in
-    omega (arith, c .before .before .before .before .before .before .before .before .turn .ensures .1, turns-left (i .some .1) (chooses (i .some .1) (c .before .before .before .before .before .before .before .before .before .before .before .before .before .before .before .first .ensures) (c .before .before .before .before .before .before .before .before .before .before .before .before .before .if1 .left)))
+    fewer (c .before .before .before .before .before .before .before .before .turn .ensures .1) (turns-left (i .some .1) (chooses (i .some .1) (c .before .before .before .before .before .before .before .before .before .before .before .before .before .before .before .first .ensures) (c .before .before .before .before .before .before .before .before .before .before .before .before .before .if1 .left)))
 
 loop-again : tie.Need-loop-again Inv-loop μ-loop
 loop-again c =
@@ -124,19 +129,19 @@ stage-2-spec =
     add-room
     cast-r
     mul-prepare
-    (search needs)
-    (search needs)
+    (λ c. zero≤)
+    (λ c. zero≤)
     part-prepare-end
     prepare-requires
     mul-build
-    (search needs)
-    (search needs)
+    (λ c. zero≤)
+    (λ c. zero≤)
     part-build-end
     build-requires
     loop-holds
     mul-first
-    (search needs)
-    (search needs)
+    (λ c. zero≤)
+    (λ c. zero≤)
     part-first-end
     (search needs)
     first-requires

@@ -1,0 +1,122 @@
+-- Sums and offsets that fit their width.
+use mathlib.Core.Path.{_≡_}
+use Prim.Native.Nat.{ℕ, _+_, _*_, _≤_, _<_}
+use native.Mathlib.Omega.{arith}
+use lib.Dec.{T, ltb, lit<}
+use mir.Syntax.{w32, w64}
+use mir.Val.{Fits}
+use Rattle.rules.proofs.Fits.{slot-in}
+
+-- the offset in bytes of a number of a list
+pub offset-fits : {i : ℕ} → Fits w32 i → Fits w64 (i * 4)
+offset-fits f = omega arith
+
+-- where a slot begins
+pub slot-begins : {k : ℕ} → Fits w32 k → Fits w64 (21 * k)
+slot-begins f = omega arith
+
+-- small numbers
+pub next-fits : {i : ℕ} → i < 2000000 → Fits w32 (i + 1)
+next-fits l = omega arith
+
+pub sum-fits : {i j : ℕ} → i < 2000000 → j < 2000000 → Fits w32 (i + j)
+sum-fits l m = omega arith
+
+pub sum-widens : {i j : ℕ} → i < 2000000 → j < 2000000 → Fits w64 (i + j)
+sum-widens l m = omega arith
+
+pub sum-offset : {i j : ℕ} → i < 2000000 → j < 2000000 → Fits w64 ((i + j) * 4)
+sum-offset l m = omega arith
+
+-- number j of slot k is in a table that is as long as before
+pub slot-kept : (k : ℕ) {m n : ℕ} → m ≡ n → 21 * k + 21 ≤ n → (j : ℕ) → T (ltb j 21) → 21 * k + j < m
+slot-kept k e l j h = rw e (slot-in k l j h)
+
+-- the ends of the parts of a work buffer of so many slots fit, and so do their offsets in bytes
+pub thrice-fits : {room : ℕ} → Fits w32 room → Fits w64 (3 * room)
+thrice-fits f = omega arith
+
+pub five-fits : {room : ℕ} → Fits w32 room → Fits w64 (5 * room)
+five-fits f = omega arith
+
+pub six-fits : {room : ℕ} → Fits w32 room → Fits w64 (6 * room)
+six-fits f = omega arith
+
+pub thrice-offset : {room : ℕ} → Fits w32 room → Fits w64 (3 * room * 4)
+thrice-offset f = omega arith
+
+pub five-offset : {room : ℕ} → Fits w32 room → Fits w64 (5 * room * 4)
+five-offset f = omega arith
+
+-- they are in order, and in the buffer
+pub three-five : (room : ℕ) → 3 * room ≤ 5 * room
+three-five room = omega arith
+
+pub five-six : (room : ℕ) → 5 * room ≤ 6 * room
+five-six room = omega arith
+
+pub thrice-in : (room : ℕ) {n : ℕ} → n ≡ 8 * room → 3 * room ≤ n
+thrice-in room e = omega arith
+
+pub five-in : (room : ℕ) {n : ℕ} → n ≡ 8 * room → 5 * room ≤ n
+five-in room e = omega arith
+
+pub six-in : (room : ℕ) {n : ℕ} → n ≡ 8 * room → 6 * room ≤ n
+six-in room e = omega arith
+
+-- a buffer that is as long as one of the same length
+pub same-long : {l m n r : ℕ} → l ≡ m → m ≡ r → n ≡ r → l ≡ n
+same-long e f g = omega arith
+
+-- the size of an image, and the room for its slots
+pub within : {n : ℕ} → n ≤ 65000 → n ≤ 1048576
+within l = omega arith
+
+pub size-fits : {n : ℕ} → n ≤ 1048576 → Fits w32 n
+size-fits l = omega arith
+
+pub size-widens : {n : ℕ} → n ≤ 1048576 → Fits w64 n
+size-widens l = omega arith
+
+pub room-narrow : {n : ℕ} → n ≤ 1048576 → Fits w32 (n + 1)
+room-narrow l = omega arith
+
+pub room-fits : {n : ℕ} → n ≤ 1048576 → Fits w64 (n + 1)
+room-fits l = omega arith
+
+pub room-small : {n : ℕ} → n ≤ 1048576 → n + 1 ≤ 2000000
+room-small l = omega arith
+
+pub room-thrice : {n : ℕ} → n ≤ 1048576 → Fits w64 (3 * (n + 1))
+room-thrice l = omega arith
+
+pub room-five : {n : ℕ} → n ≤ 1048576 → Fits w64 (5 * (n + 1))
+room-five l = omega arith
+
+pub room-eight : {n : ℕ} → n ≤ 1048576 → Fits w64 (8 * (n + 1))
+room-eight l = omega arith
+
+pub room-offset : {n : ℕ} → n ≤ 1048576 → Fits w64 (3 * (n + 1) * 4)
+room-offset l = omega arith
+
+-- and its work buffer
+pub eight-in : (n : ℕ) {l : ℕ} → 8 * n + 8 ≤ l → 8 * (n + 1) ≤ l
+eight-in n e = omega arith
+
+-- the index of a channel of pixel i fits
+pub pixel-begins : {i : ℕ} → Fits w32 i → Fits w64 (4 * i)
+pixel-begins f = omega arith
+
+pub channel-fits : {i : ℕ} → Fits w32 i → (j : ℕ) → T (ltb j 4) → Fits w64 (4 * i + j)
+channel-fits f j h = omega (arith, lit< {m = j} {n = 4} h)
+
+-- it is in the image
+pub first-in : (i : ℕ) {n : ℕ} → 4 * i + 4 ≤ n → 4 * i < n
+first-in i l = omega arith
+
+pub channel-in : (i : ℕ) {n : ℕ} → 4 * i + 4 ≤ n → (j : ℕ) → T (ltb j 4) → 4 * i + j < n
+channel-in i l j h = omega (arith, lit< {m = j} {n = 4} h)
+
+-- a small number of slots
+pub small-fits : {room : ℕ} → room ≤ 2000000 → Fits w32 room
+small-fits l = omega arith
