@@ -340,9 +340,9 @@ fn try_sheet(e: Edge, stores: bool) -> bool {
     let links = first(&all_links, e.links);
     let table = first(&slots, e.table);
     let outputs = first(&entries, e.outputs);
-    let lent = filled_bytes(&mut bytes, e.bytes);
-    let number = call(e, stores, labels, links, table, outputs, lent);
-    is_right(e, stores, number, labels, links, table, outputs, lent)
+    let out = filled_bytes(&mut bytes, e.bytes);
+    let number = call(e, stores, labels, links, table, outputs, out);
+    is_right(e, stores, number, labels, links, table, outputs, out)
 }
 
 // A row that is asked for, the number that its check has to answer, and where in the picture the row begins.
