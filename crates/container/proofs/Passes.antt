@@ -12,13 +12,9 @@ use lib.Dec.{T, leb, ltb}
 use lib.ListN.{length, getD}
 use Rattle.rules.specs.Color.{hasAverage}
 use Rattle.rules.specs.Paint.{reads, slotNumber, residueOf, entryAnswer, entriesAnswer}
-use Rattle.rules.proofs.Facts.{is-true}
+use Rattle.rules.proofs.Facts.{is-true, both-true}
 use Rattle.rules.proofs.Walks.{reads-none}
 use Rattle.container.specs.Quick.{NumbersPass, ListPasses, PassFrom, EntriesFit}
-
-pub both-true : (a b : Bool) → (a && b) ≡ true → (a ≡ true) × (b ≡ true)
-both-true true b e = (refl, e)
-both-true false b e = absurd (subst T (sym e) tt)
 
 pub never {ℓ} : {A : Type ℓ} → false ≡ true → A
 never e = absurd (subst T (sym e) tt)

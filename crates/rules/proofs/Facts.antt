@@ -289,3 +289,7 @@ countOf-bound f (suc n) = pick (f n) (countOf-bound f n)
     pick : (b : Bool) → countOf f n ≤ n → bit b + countOf f n ≤ suc n
     pick true l = omega arith
     pick false l = omega arith
+
+pub both-true : (a b : Bool) → (a && b) ≡ true → (a ≡ true) × (b ≡ true)
+both-true true b e = (refl, e)
+both-true false b e = absurd (subst T (sym e) tt)

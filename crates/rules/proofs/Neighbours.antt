@@ -34,12 +34,12 @@ all-map : (P Q : ℕ → Type 0) (xs : List ℕ) → ((x : ℕ) → P x → Q x)
 all-map P Q [] f a = tt
 all-map P Q (x ∷ xs) f a = (f x (a .0), all-map P Q xs f (a .1))
 
-all-in : (P : ℕ → Type 0) (xs : List ℕ) → All P xs → (x : ℕ) → In x xs → P x
+pub all-in : (P : ℕ → Type 0) (xs : List ℕ) → All P xs → (x : ℕ) → In x xs → P x
 all-in P [] a x i = absurd i
 all-in P (y ∷ ys) a x (inl e) = subst P (sym e) (a .0)
 all-in P (y ∷ ys) a x (inr i) = all-in P ys (a .1) x i
 
-insert-rising : (a : ℕ) (xs : List ℕ) → Rising xs → Rising (insert a xs)
+pub insert-rising : (a : ℕ) (xs : List ℕ) → Rising xs → Rising (insert a xs)
 insert-rising a [] r = (tt, tt)
 insert-rising a (x ∷ xs) r = go (ltb a x) refl (eqb a x) refl (insert-rising a xs (r .1))
   where

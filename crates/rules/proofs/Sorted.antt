@@ -14,7 +14,7 @@ use Rattle.rules.specs.Stage2.{outputAll, neighbours, decide, visit, pas
 use Rattle.rules.proofs.Facts.{is-true, is-false, eqb-yes, eqb-no}
 use Rattle.rules.proofs.Visits.{All, eqb-is}
 
-keep-append : (f : ℕ → Bool) (xs ys : List ℕ) → keep f (xs ++ ys) ≡ keep f xs ++ keep f ys
+pub keep-append : (f : ℕ → Bool) (xs ys : List ℕ) → keep f (xs ++ ys) ≡ keep f xs ++ keep f ys
 keep-append f [] ys = refl
 keep-append f (x ∷ xs) ys = pick (f x) (keep-append f xs ys)
   where

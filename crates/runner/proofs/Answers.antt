@@ -1,21 +1,17 @@
 -- The checks of the public calls, taken in two steps: the size of the image, then the rest.
-use mathlib.Core.Path.{_≡_, refl, sym, subst}
-use mathlib.Core.Bool.{Bool, true, false, not, _&&_, _||_}
-use mathlib.Core.List.{List, [], _∷_, _++_}
-use Prim.Native.Nat.{ℕ, suc, _*_, _≤_, _<_}
+use mathlib.Core.Path.{_≡_, refl}
+use mathlib.Core.Bool.{not, _&&_}
+use Prim.Native.Nat.{ℕ, _<_}
 use native.Mathlib.Omega.{arith}
 use native.Mathlib.Decide.{decLt}
-use lib.Dec.{T, eqb, ltb, leb, le→leb, leb→le, ltb→lt, lt→ltb}
+use lib.Dec.{ltb, leb, le→leb, leb→le, ltb→lt, lt→ltb}
 use lib.IntN.{ℤ, pos, negsuc}
 use lib.Signed.{leZ}
 use mir.Syntax.{w32}
 use mir.Val.{SFits, toZ, ofZ}
 use mir.ValLaws.{toZ-ofZ}
-use Rattle.rules.specs.Base.{if_then_else_}
-use Rattle.rules.specs.Color.{RunnerConfig}
-use Rattle.rules.specs.Refusals.{Check, when, firstFailed, limit, badShift, sizeChecks, notFourEach, runAnswer, tableLength, outputsLength, workLength}
+use Rattle.rules.specs.Refusals.{badShift}
 use Rattle.rules.proofs.Facts.{is-true, is-false}
-use Rattle.rules.proofs.Accepted.{passed, not-below}
 
 above : (n : ℕ) → not (leb 0 n && leb n 7) ≡ ltb 7 n
 above n = rw (is-true (leb 0 n) (le→leb 0 n (omega arith))) (pick (decLt 7 n))

@@ -9,7 +9,7 @@ use lib.Seq.{getD-set-same, getD-set-other, getD-append-add}
 use Rattle.rules.specs.State.{State, put}
 use Rattle.runner.specs.Rep.{Rep}
 use Rattle.runner.specs.Queue.{Tree, KeySet, Keyed, stored}
-use Rattle.runner.specs.Stage2.{part, withPart, queuePart, endsPart, marksPart, Carried}
+use Rattle.runner.specs.Stage2.{part, withPart, queuePart, Carried}
 use Rattle.runner.proofs.Parts.{part-set, part-length, length-with, after-with, part-with, part-before, part-after}
 use Rattle.runner.proofs.Queues.{keyed-set}
 use Rattle.runner.proofs.RepStage2.{rep-put}

@@ -2,34 +2,22 @@
 use mathlib.Core.Path.{_≡_, refl, sym, ap, _∙_, subst}
 use mathlib.Core.Bool.{Bool, true, false}
 use mathlib.Core.List.{List, [], _∷_, _++_, append-assoc, append-nil}
-use Prim.Native.Nat.{ℕ, zero, suc, _+_, _*_, _≤_, _<_}
+use Prim.Native.Nat.{ℕ, suc, _+_, _*_, _≤_, _<_}
 use native.Mathlib.Numerals.{add-one}
 use native.Mathlib.Omega.{arith}
 use lib.Dec.{ltb}
-use lib.ListN.{length, getD, set, take, drop, length-append, length-take}
+use lib.ListN.{length, getD, set, take, drop, length-append}
 use lib.Seq.{take-suc, drop-cons, set-append-seam, length-take-le}
 use Rattle.rules.specs.Base.{if_then_else_, keep}
 use Rattle.rules.specs.Calls.{over}
 use Rattle.rules.proofs.Calls.{over-length}
+use Rattle.rules.proofs.Sorted.{keep-append}
+use Rattle.rules.proofs.Facts.{keep-le}
 use Rattle.runner.specs.Outputs.{counted, Kept}
-
-keep-append : (f : ℕ → Bool) (xs ys : List ℕ) → keep f (xs ++ ys) ≡ keep f xs ++ keep f ys
-keep-append f [] ys = refl
-keep-append f (x ∷ xs) ys = pick (f x) (keep-append f xs ys)
-  where
-    pick : (b : Bool) → keep f (xs ++ ys) ≡ keep f xs ++ keep f ys → (if b then x ∷ keep f (xs ++ ys) else keep f (xs ++ ys)) ≡ (if b then x ∷ keep f xs else keep f xs) ++ keep f ys
-    pick true e = ap (λ l. x ∷ l) e
-    pick false e = e
 
 pub counted-few : (table entries : List ℕ) → length (counted table entries) ≤ length entries
 unfolding counted
-counted-few table [] = omega arith
-counted-few table (x ∷ xs) = pick (ltb 0 (getD table (21 * x + 10) 0)) (counted-few table xs)
-  where
-    pick : (b : Bool) → length (keep (λ k. ltb 0 (getD table (21 * k + 10) 0)) xs) ≤ length xs
-        → length (if b then x ∷ keep (λ k. ltb 0 (getD table (21 * k + 10) 0)) xs else keep (λ k. ltb 0 (getD table (21 * k + 10) 0)) xs) ≤ suc (length xs)
-    pick true l = omega arith
-    pick false l = omega arith
+counted-few table entries = keep-le (λ k. ltb 0 (getD table (21 * k + 10) 0)) entries
 
 -- written over one entry further
 over-more : (new old : List ℕ) (x : ℕ) → length new < length old → set (over new old) (length new) x ≡ over (new ++ (x ∷ [])) old

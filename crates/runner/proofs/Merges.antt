@@ -1,6 +1,6 @@
 -- The merges of stage 2 in the buffers: what they ask is there, and what they leave holds the state of the rules.
 use mathlib.Core.Path.{_≡_, refl, sym, ap, ap₂, _∙_, subst}
-use mathlib.Core.Bool.{Bool, true, false}
+use mathlib.Core.Bool.{true, false}
 use mathlib.Core.List.{List}
 use Prim.Native.Nat.{ℕ, _+_, _-_, _*_, _≤_, _<_}
 use native.Mathlib.Omega.{arith}
@@ -8,7 +8,7 @@ use lib.Dec.{T, eqb}
 use lib.ListN.{length, getD, set}
 use Rattle.rules.specs.Base.{if_then_else_}
 use Rattle.rules.specs.Color.{RunnerConfig, ColorSum, _⊕_}
-use Rattle.rules.specs.State.{State, newCluster, cluster, label, area, relabel, withCluster, merge, deepen}
+use Rattle.rules.specs.State.{State, cluster, label, area, relabel, withCluster, merge, deepen}
 use Rattle.rules.specs.Layout.{firstOf, walk}
 use Rattle.rules.specs.Paint.{reads}
 use Rattle.rules.specs.Order.{Queue}
@@ -28,6 +28,7 @@ use Rattle.runner.proofs.RepReads.{root-chain, rep-reads, rep-walk, rep
 use Rattle.runner.proofs.RepStage2.{head-residue, rep-merge, rep-deepen}
 use Rattle.runner.proofs.RepHollow.{hole-tail-fits, rep-hollow}
 use Rattle.runner.proofs.Moment.{At, going, some-pixels, slot-fits}
+use Rattle.runner.proofs.Stage1Laws.{rep-is}
 
 -- the totals of two clusters of an image fit
 adds : (size : ℕ) → size ≤ 1048576 → (x y : ColorSum) → Fits size x → Fits size y → Adds x y
@@ -38,11 +39,6 @@ adds size l x y F G = record {
   a = omega (arith, F .a, F .count, G .a, G .count);
   count = omega (arith, F .count, G .count);
 }
-
--- the same buffers told otherwise
-rep-same : {size : ℕ} {s : State} {t₀ L K B E L′ K′ B′ E′ : List ℕ} → L′ ≡ L → K′ ≡ K → B′ ≡ B → E′ ≡ E → Rep size s t₀ L K B E → Rep size s t₀ L′ K′ B′ E′
-rep-same {size} {s} {t₀} {L} {K} {B} {E} {L′} {K′} {B′} {E′} a b c d R =
-    subst (λ x. Rep size s t₀ x K′ B′ E′) (sym a) (subst (λ x. Rep size s t₀ L x B′ E′) (sym b) (subst (λ x. Rep size s t₀ L K x E′) (sym c) (subst (λ x. Rep size s t₀ L K B x) (sym d) R)))
 
 module _ {o : RunnerConfig} {w h : ℕ} {image : List ℕ} {q : Queue} {k : ℕ} (A : At o w h image q k) (t : ℕ) (N : Near (q .now) (label (q .now) (getD (cluster (q .now) k .pixels) 0 0)) t) where
   abbrev s : State
@@ -107,7 +103,7 @@ module _ {o : RunnerConfig} {w h : ℕ} {image : List ℕ} {q : Queue} {k : ℕ}
 
     pub merged-rep : {L′ K′ B′ E′ : List ℕ} → Merged k t L K B E L′ K′ B′ E′ → Rep (w * h) (merge k t (q .now)) t₀ L′ K′ B′ E′
     merged-rep {L′} {K′} {B′} {E′} M =
-        rep-same (M .combined .labels ∙ relabels x e) (M .combined .links ∙ relinks x e y d) (M .combined .table (cluster s t) (cluster s k) d e) (M .combined .ends ∙ ends-there x e)
+        rep-is (M .combined .labels ∙ relabels x e) (M .combined .links ∙ relinks x e y d) (M .combined .table (cluster s t) (cluster s k) d e) (M .combined .ends ∙ ends-there x e)
         (rep-merge a k s (going A) (some-pixels A) refl t N R (A .ranged .slots) (all-fit (length t₀) fits) (M .r) (M .residue ∙ ap₂ _⊕_ (residue-at s (R .tabled) t target-slot) (residue-at s (R .tabled) k own-slot)))
       where
         x : Head
@@ -124,7 +120,7 @@ module _ {o : RunnerConfig} {w h : ℕ} {image : List ℕ} {q : Queue} {k : ℕ}
 
     pub deepened-rep : {L′ K′ B′ E′ : List ℕ} → Deepened k t L K B E L′ K′ B′ E′ → Rep (w * h) (deepen false k t (q .now)) t₀ L′ K′ B′ E′
     deepened-rep {L′} {K′} {B′} {E′} D =
-        rep-same (D .labels ∙ relabels (headAt B k) e) (D .links ∙ relinks (headAt B k) e (headAt B t) d)
+        rep-is (D .labels ∙ relabels (headAt B k) e) (D .links ∙ relinks (headAt B k) e (headAt B t) d)
         (D .table (cluster s t) (cluster s k) d e
         ∙ ap (λ n. set (set (savedHead B t (headOf (withCluster (cluster s k) (cluster s t)))) (21 * k + 16) t) (21 * t + 17) (n + 1)) (depth-at s (R .tabled) t target-slot))
         (D .ends ∙ ends-there (headAt B k) e)
@@ -161,4 +157,4 @@ module _ {o : RunnerConfig} {w h : ℕ} {image : List ℕ} {q : Queue} {k : ℕ}
         count = own ∙ ap length (deepen-t-holes a k s (going A) (some-pixels A) refl t N false)
 
     pub hollowed-rep : {B′ E′ : List ℕ} → Hollowed (w * h + 1) k t B E B′ E′ → Rep (w * h) (deepen true k t (q .now)) t₀ L K B′ E′
-    hollowed-rep H = rep-same refl refl (H .table) (H .ends) (rep-hollow a k s (going A) (some-pixels A) refl t N (A .holes) R (A .ranged .slots) (all-fit (length t₀) fits))
+    hollowed-rep H = rep-is refl refl (H .table) (H .ends) (rep-hollow a k s (going A) (some-pixels A) refl t N (A .holes) R (A .ranged .slots) (all-fit (length t₀) fits))

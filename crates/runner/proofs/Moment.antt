@@ -1,10 +1,9 @@
 -- What is known of the state of the rules before a turn, and read off the buffers that hold it.
 use mathlib.Core.Path.{_≡_, refl, sym, ap, ap₂, _∙_, subst}
-use mathlib.Core.Logic.{_≢_, _⊎_, inl, inr}
-use mathlib.Core.Bool.{Bool, _&&_, _||_}
-use mathlib.Core.List.{List, [], _∷_}
+use mathlib.Core.Bool.{_&&_, _||_}
+use mathlib.Core.List.{List, []}
 use mathlib.Core.Option.{some}
-use Prim.Native.Nat.{ℕ, _+_, _*_, _/_, _≤_, _<_}
+use Prim.Native.Nat.{ℕ, _+_, _*_, _≤_, _<_}
 use native.Mathlib.Nat.{div-le-of-le-mul}
 use native.Mathlib.Omega.{arith}
 use lib.Dec.{T, eqb, ltb}
@@ -17,15 +16,14 @@ use Rattle.rules.specs.Layout.{firstOf, walk}
 use Rattle.rules.specs.Paint.{reads}
 use Rattle.rules.specs.Order.{Queue, pick}
 use Rattle.rules.specs.Ranges.{Fits, Ranged}
-use Rattle.rules.proofs.Visits.{All, Near, Going, neighbours-near}
+use Rattle.rules.proofs.Visits.{Near, Going, neighbours-near}
 use Rattle.rules.proofs.Visits as visits
 use Rattle.rules.proofs.Outputs.{In}
 use Rattle.rules.proofs.Paint.{has-average}
 use Rattle.rules.proofs.Holes.{Holes, turns-holes}
 use Rattle.rules.proofs.Ranges.{turns-ranged}
-use Rattle.rules.proofs.Order.{turns-few}
 use Rattle.rules.proofs.Turns.{Ready, turn-ready, turns-outputs}
-use Rattle.runner.specs.Slots.{sumAt}
+use Rattle.rules.proofs.Neighbours.{all-in}
 use Rattle.runner.specs.Rep.{Rep}
 use Rattle.runner.specs.Interior.{someInside}
 use Rattle.runner.specs.Neighbours.{diffAt, nearestOf, Averaged, Scannable, listAt}
@@ -50,11 +48,6 @@ at o w h image I i k p = record {
   holes = turns-holes o w h image i;
   outputs = turns-outputs o w h image i;
 }
-
-all-in : (P : ℕ → Type 0) (xs : List ℕ) → All P xs → (x : ℕ) → In x xs → P x
-all-in P [] a x i = absurd i
-all-in P (y ∷ ys) a x (inl e) = subst P (sym e) (a .0)
-all-in P (y ∷ ys) a x (inr i) = all-in P ys (a .1) x i
 
 -- averages of bytes are bytes, so colours differ by at most 765
 diff-small : (size : ℕ) (s : State) (j k : ℕ) → Fits size (cluster s j .sum) → Fits size (cluster s k .sum) → diff s j k ≤ 765

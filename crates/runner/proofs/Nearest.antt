@@ -17,36 +17,18 @@ use Rattle.rules.specs.Color.{colorDiff, average}
 use Rattle.rules.specs.State.{State, cluster, label}
 use Rattle.rules.specs.Stage2.{labelsAt, labelsAround, neighbours, rank}
 use Rattle.rules.proofs.Facts.{is-true}
-use Rattle.rules.proofs.Visits.{All, insert-all}
+use Rattle.rules.proofs.Visits.{All}
 use Rattle.rules.proofs.Outputs.{In}
 use Rattle.rules.proofs.Listed.{insert-new, insert-old}
 use Rattle.rules.proofs.Largest.{insert-from}
 use Rattle.rules.proofs.Interior.{in-member, member-in}
 use Rattle.rules.proofs.Connected.{AllSome}
-use Rattle.rules.proofs.Neighbours.{Rising, least-is, least-unique}
+use Rattle.rules.proofs.Neighbours.{Rising, least-is, least-unique, all-in, insert-rising}
 use Rattle.runner.specs.declared.cluster.Nearest.{Nearest}
 use Rattle.runner.specs.Slots.{sumAt}
 use Rattle.runner.specs.Neighbours.{placeLabel, diffAt, nearestOf, closer, added, Scan, noted, listAt}
 
 -- ---- a number put into a rising list
-
-above : (a x : ℕ) (xs : List ℕ) → a < x → All (λ y. x < y) xs → All (λ y. a < y) xs
-above a x [] l r = tt
-above a x (y ∷ ys) l r = (omega (arith, r .0), above a x ys l (r .1))
-
-below : (x : ℕ) (xs : List ℕ) → All (λ y. x < y) xs → (a : ℕ) → In a xs → x < a
-below x [] r a i = absurd i
-below x (y ∷ ys) r a (inl e) = omega (arith, r .0)
-below x (y ∷ ys) r a (inr i) = below x ys (r .1) a i
-
-insert-rising : (a : ℕ) (xs : List ℕ) → Rising xs → Rising (insert a xs)
-insert-rising a [] r = (tt, tt)
-insert-rising a (x ∷ xs) r = pick (ltb a x) refl (eqb a x) refl (insert-rising a xs (r .1))
-  where
-    pick : (b : Bool) → ltb a x ≡ b → (c : Bool) → eqb a x ≡ c → Rising (insert a xs) → Rising (if b then a ∷ x ∷ xs else (if c then x ∷ xs else x ∷ insert a xs))
-    pick true e c d q = ((ltb-true a x e, above a x xs (ltb-true a x e) (r .0)), r)
-    pick false e true d q = r
-    pick false e false d q = (insert-all (λ y. x < y) a xs (omega (arith, ltb-false a x e, eqb-false a x d)) (r .0), q)
 
 -- one that is there already changes nothing
 insert-there : (a : ℕ) (xs : List ℕ) → Rising xs → T (member a xs) → insert a xs ≡ xs
@@ -56,7 +38,7 @@ insert-there a (x ∷ xs) r m = pick (ltb a x) refl (eqb a x) refl m (insert-the
     pick : (b : Bool) → ltb a x ≡ b → (c : Bool) → eqb a x ≡ c → T (c || member a xs) → (T (member a xs) → insert a xs ≡ xs)
         → (if b then a ∷ x ∷ xs else (if c then x ∷ xs else x ∷ insert a xs)) ≡ x ∷ xs
     pick true e true d t q = absurd (omega (arith, ltb-true a x e, eqb-true a x d))
-    pick true e false d t q = absurd (omega (arith, ltb-true a x e, below x xs (r .0) a (member-in a xs t)))
+    pick true e false d t q = absurd (omega (arith, ltb-true a x e, all-in (λ y. x < y) xs (r .0) a (member-in a xs t)))
     pick false e true d t q = refl
     pick false e false d t q = ap (λ ys. x ∷ ys) (q t)
 
@@ -157,9 +139,9 @@ pub nearest-same : (f g : ℕ → ℕ) (xs : List ℕ) → All (λ x. f x ≡ g 
 nearest-same f g [] a = refl
 nearest-same f g (x ∷ xs) a = let q = least-same f g x xs (a .0) (a .1) in ap₂ (λ t d. record { count = length (x ∷ xs); target = t; diff = d }) (q .0) (q .1)
 
-all-in : (P : ℕ → Type 0) (xs : List ℕ) → ((x : ℕ) → In x xs → P x) → All P xs
-all-in P [] f = tt
-all-in P (x ∷ xs) f = (f x (inl refl), all-in P xs (λ y i. f y (inr i)))
+in-all : (P : ℕ → Type 0) (xs : List ℕ) → ((x : ℕ) → In x xs → P x) → All P xs
+in-all P [] f = tt
+in-all P (x ∷ xs) f = (f x (inl refl), in-all P xs (λ y i. f y (inr i)))
 
 -- where the buffers hold the labels, the list of cluster k and the sums of a state, what a scan finds are the neighbours of the rules
 pub neighbours-nearest : (w h : ℕ) (s : State) (k : ℕ) (labels links table : List ℕ) → labels ≡ s .labels → listAt links table k ≡ cluster s k .pixels
@@ -168,7 +150,7 @@ pub neighbours-nearest : (w h : ℕ) (s : State) (k : ℕ) (labels links table :
 unfolding neighbours rank
 neighbours-nearest w h s k labels links table a b c d e =
     rw (a, b, c) (nearest-same (diffAt table k) (rank s k) (labelsAround w h (s .labels) k (cluster s k .pixels) [])
-    (all-in (λ l. diffAt table k l ≡ rank s k l) (labelsAround w h (s .labels) k (cluster s k .pixels) []) (λ l i. ap₂ (λ x y. colorDiff (average x) (average y)) d (e l (rw c i)))))
+    (in-all (λ l. diffAt table k l ≡ rank s k l) (labelsAround w h (s .labels) k (cluster s k .pixels) []) (λ l i. ap₂ (λ x y. colorDiff (average x) (average y)) d (e l (rw c i)))))
 
 -- ---- a label noted
 

@@ -6,7 +6,7 @@ use Prim.Native.Nat.{ℕ, _+_, _*_, _≤_, _<_}
 use native.Mathlib.Decide.{decLt}
 use native.Mathlib.Omega.{arith}
 use lib.Dec.{lit<}
-use lib.ListN.{length, getD}
+use lib.ListN.{getD}
 use Rattle.color.specs.declared.ColorSum.{ColorSum}
 use Rattle.runner.specs.Slots.{headAt, residueNumbers, savedResidue}
 use Rattle.runner.specs.Ops.{Open, CanAppend}

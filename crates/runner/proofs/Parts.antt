@@ -5,7 +5,7 @@ use Prim.Native.Nat.{ℕ, _+_, _-_, _*_, _≤_, _<_}
 use native.Mathlib.Omega.{arith}
 use lib.ListN.{length, getD, set, take, drop, length-set, length-append, length-take, length-drop, List·getD-append}
 use lib.Seq.{length-take-le, getD-append-add, getD-take, getD-drop, getD-set-other, take-at, drop-at, ext-getD}
-use borrow.Rule.Slice.PartMut.{post-is, mid-len}
+use borrow.Rule.Slice.PartMut.{mid-len}
 use Rattle.runner.specs.Stage2.{part, withPart}
 
 -- parts of lists of one length are the same where their numbers are

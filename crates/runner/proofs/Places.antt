@@ -1,9 +1,8 @@
 -- Places in an image of w columns and h rows.
-use Prim.Native.Nat.{ℕ, zero, suc, _+_, _*_, _%_, _/_, _≤_, _<_}
-use native.Mathlib.Nat.{mul-le-mul-left, mul-comm, suc-mul, div-add-mod', mod-lt, mod-eq-of-lt}
+use Prim.Native.Nat.{ℕ, suc, _+_, _*_, _%_, _/_, _≤_, _<_}
+use native.Mathlib.Nat.{mul-le-mul-left, mul-comm, suc-mul, div-add-mod'}
 use native.Mathlib.Decide.{decLt}
 use native.Mathlib.Omega.{arith}
-use mathlib.Core.Path.{_≡_}
 
 -- column x of row y is a pixel
 pub place-in : (w h x y : ℕ) → x < w → y < h → y * w + x < w * h

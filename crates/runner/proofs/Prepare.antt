@@ -7,7 +7,7 @@ use native.Mathlib.Numerals.{add-one}
 use native.Mathlib.Omega.{arith}
 use borrow.Author.Tests.{le-ltb}
 use lib.Dec.{lit<}
-use lib.ListN.{length, getD, set, drop, length-set, drop-of-length-le}
+use lib.ListN.{length, getD, drop, length-set, drop-of-length-le}
 use lib.Seq.{drop-cons, getD-set-same, getD-set-other}
 use Rattle.rules.specs.Base.{if_then_else_}
 use Rattle.rules.specs.State.{State, Cluster, newCluster, cluster, area}

@@ -1,10 +1,6 @@
 -- Where the numbers of a slot stand in the table, and when a head is that of a cluster. Assumes nothing.
 use mathlib.Core.Path.{_≡_}
-use Prim.Native.Nat.{ℕ, _+_, _*_, _≤_, _<_}
 use native.Mathlib.Omega.{arith}
-use mir.Syntax.{w32, w64}
-use mir.Val.{Fits}
-use lib.Dec.{T, ltb, lit<}
 use lib.ListN.{length}
 use Rattle.rules.specs.State.{Cluster}
 use Rattle.rules.specs.Layout.{firstOf}

@@ -1,7 +1,7 @@
 -- Stage 2 starts in the buffers: slots prepared, the queue built.
-use mathlib.Core.Path.{_≡_, refl, sym, ap, ap₂, _∙_, subst}
+use mathlib.Core.Path.{_≡_, refl, sym, ap, _∙_, subst}
 use mathlib.Core.List.{List, [], _∷_, map}
-use Prim.Native.Nat.{ℕ, _+_, _-_, _*_, _≤_, _<_, max}
+use Prim.Native.Nat.{ℕ, _+_, _-_, _*_, _≤_, max}
 use native.Mathlib.Omega.{arith}
 use lib.ListN.{length, getD, length-map, List·getD-map}
 use Rattle.rules.specs.Color.{RunnerConfig}
@@ -14,7 +14,7 @@ use Rattle.rules.proofs.Whole.{early}
 use Rattle.rules.proofs.Ranges.{turns-ranged}
 use Rattle.runner.specs.Rep.{Table, Rep, slotsOf}
 use Rattle.runner.specs.Queue.{Sized, Tree, Keyed, Built, stored}
-use Rattle.runner.specs.Stage2.{part, withPart, queuePart, endsPart, marksPart, Carried, Prepared, Between, Entered, CanStage2}
+use Rattle.runner.specs.Stage2.{part, withPart, queuePart, Prepared, Between, Entered, CanStage2}
 use Rattle.runner.proofs.Parts.{part-length, length-with, part-with, part-after}
 use Rattle.runner.proofs.RepStage2.{rep-prepare}
 

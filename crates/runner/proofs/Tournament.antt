@@ -11,6 +11,7 @@ use lib.ListN.{length, getD, set, length-set}
 use lib.Seq.{getD-set-same, getD-set-other, set-getD}
 use borrow.Author.Tests.{ltb-true, ltb-false, eqb-true, le-leb, lt-leb}
 use Rattle.rules.specs.Base.{if_then_else_}
+use Rattle.rules.proofs.Facts.{both-true}
 use Rattle.runner.specs.declared.queue.Entry.{Entry}
 use Rattle.runner.specs.Queue.{Sized, leaf, node, entryAt, firstOf, firstBelow, Tree, refreshed, First}
 
@@ -176,10 +177,6 @@ module _ (queue : List ℕ) (n room : ℕ) (S : Sized n room (length queue)) (j 
 
 -- ---- the stores of one node
 
-both : (a b : Bool) → (a && b) ≡ true → (a ≡ true) × (b ≡ true)
-both true b e = (refl, e)
-both false b e = (e, cc)
-
 module _ (queue : List ℕ) (n room j : ℕ) (e : Entry) (is : e ≡ firstBelow queue n room j) where
   pub stored-node : set (set queue (room + 2 * j) (e .key)) (room + 2 * j + 1) (e .slot) ≡ refreshed queue n room j
   unfolding refreshed
@@ -188,7 +185,7 @@ module _ (queue : List ℕ) (n room j : ℕ) (e : Entry) (is : e ≡ firstBelow 
   -- a node that holds it already needs no store
   pub kept-node : (eqb (getD queue (room + 2 * j) 0) (e .key) && eqb (getD queue (room + 2 * j + 1) 0) (e .slot)) ≡ true → queue ≡ refreshed queue n room j
   kept-node t =
-      let b = both (eqb (getD queue (room + 2 * j) 0) (e .key)) (eqb (getD queue (room + 2 * j + 1) 0) (e .slot)) t in
+      let b = both-true (eqb (getD queue (room + 2 * j) 0) (e .key)) (eqb (getD queue (room + 2 * j + 1) 0) (e .slot)) t in
       sym (set-getD queue (room + 2 * j + 1) 0)
       ∙ ap₂ (λ q v. set q (room + 2 * j + 1) v) (sym (set-getD queue (room + 2 * j) 0) ∙ ap (set queue (room + 2 * j)) (eqb-true (getD queue (room + 2 * j) 0) (e .key) (b .0))) (eqb-true (getD queue (room + 2 * j + 1) 0) (e .slot) (b .1))
       ∙ stored-node

@@ -2,13 +2,13 @@
 use mathlib.Core.Path.{_≡_, refl, sym, ap, _∙_, subst}
 use mathlib.Core.Logic.{_≢_}
 use mathlib.Core.List.{List}
-use Prim.Native.Nat.{ℕ, suc, _+_, _-_, _*_, _≤_, _<_}
+use Prim.Native.Nat.{ℕ, _+_, _-_, _*_, _≤_, _<_}
 use native.Mathlib.Numerals.{add-one}
 use native.Mathlib.Omega.{arith}
-use lib.ListN.{length, getD, set}
+use lib.ListN.{length}
 use Rattle.rules.specs.Color.{RunnerConfig}
 use Rattle.rules.specs.Run.{stage1, stage2}
-use Rattle.rules.specs.Order.{Queue, queue, largest, rekey, turn, turns}
+use Rattle.rules.specs.Order.{Queue, queue, largest, rekey, turns}
 use Rattle.rules.proofs.Whole.{early}
 use Rattle.rules.proofs.Order.{turns-few, turns-end}
 use Rattle.rules.proofs.Turns.{turn-ready, turns-table}

@@ -4,12 +4,12 @@ use mathlib.Core.Bool.{Bool, true, false, _||_}
 use mathlib.Core.List.{List, [], _∷_}
 use Prim.Native.Nat.{ℕ, _+_, _-_, _*_, _≤_, _<_, max}
 use native.Mathlib.Omega.{arith}
-use lib.Dec.{T, eqb, ltb, leb}
+use lib.Dec.{T, leb}
 use lib.ListN.{length, getD, set, length-append}
 use borrow.Author.Tests.{lt-ltb, le-ltb}
-use Rattle.rules.specs.Base.{if_then_else_, noneAbove}
+use Rattle.rules.specs.Base.{if_then_else_}
 use Rattle.rules.specs.Color.{RunnerConfig, discards}
-use Rattle.rules.specs.State.{State, Event, plain, deepened, cluster, label, area, put, merge, deepen}
+use Rattle.rules.specs.State.{State, plain, deepened, cluster, label, area, put, merge, deepen}
 use Rattle.rules.specs.Layout.{link, links, slot}
 use Rattle.rules.specs.Paint.{reads}
 use Rattle.rules.specs.Stage2.{labelsAround, neighbours, diff, rank, deepens, isolated, mergeInto, decide}
@@ -25,8 +25,8 @@ use Rattle.runner.specs.Rep.{Rep}
 use Rattle.runner.specs.Ops.{CanMerge, Merged, CanDeepen, Deepened, CanHollow, Hollowed}
 use Rattle.runner.specs.Queue.{KeySet, stored}
 use Rattle.runner.specs.Neighbours.{diffAt, nearestOf, Scannable, listAt}
-use Rattle.runner.specs.Stage2.{withPart, queuePart, endsPart, marksPart, Carried, onePut, CanPut, Put, goesOut, CanGrow, Grown, queueAt, visitAt, Visiting, Aimed, Visited, deepensAt}
-use Rattle.runner.proofs.Parts.{part-length, part-with}
+use Rattle.runner.specs.Stage2.{withPart, queuePart, endsPart, marksPart, Carried, CanPut, Put, goesOut, CanGrow, Grown, queueAt, visitAt, Visiting, Aimed, Visited, deepensAt}
+use Rattle.runner.proofs.Parts.{part-length}
 use Rattle.runner.proofs.Queues.{stored-some}
 use Rattle.runner.proofs.Tables.{count-at}
 use Rattle.runner.proofs.RepReads.{rep-labels-length, rep-links-length}

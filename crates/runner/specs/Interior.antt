@@ -2,7 +2,7 @@
 use mathlib.Core.Bool.{Bool, not, _&&_}
 use mathlib.Core.List.{List}
 use Prim.Native.Nat.{ℕ}
-use lib.Dec.{T, eqb}
+use lib.Dec.{eqb}
 use lib.ListN.{getD}
 use Rattle.rules.specs.Color.{RunnerConfig, isDiscard}
 use Rattle.rules.specs.Grid.{sides}

@@ -1,7 +1,7 @@
 -- The declared types as values of the rules.
 use Rattle.rules.specs.State as rules
 use Rattle.rules.specs.Color as colors
-use Rattle.color.specs.Colors.{colorOf, sumOf}
+use Rattle.color.specs.Colors.{colorOf}
 use Rattle.runner.specs.declared.bound.BoundingRect.{BoundingRect}
 use Rattle.runner.specs.declared.KeyingAction.{KeyingAction}
 use Rattle.runner.specs.declared.KeyingAction.the-variants.{Keep, Discard}

@@ -8,7 +8,8 @@ use lib.Dec.{eqb, ltb}
 use lib.ListN.{length, getD}
 use Rattle.rules.specs.Paint.{slotNumber}
 use Rattle.container.specs.Quick.{Filled}
-use Rattle.container.proofs.Passes.{both-true, none-left, pass-more}
+use Rattle.rules.proofs.Facts.{both-true}
+use Rattle.container.proofs.Passes.{none-left, pass-more}
 use Rattle.container.proofs.quick.filled.Statement.{statement}
 use Rattle.container.proofs.quick.filled.Tie as tie
 

@@ -4,7 +4,8 @@ use native.Mathlib.Omega.{arith}
 use borrow.Author.Tests.{eqb-true}
 use lib.Dec.{eqb}
 use Rattle.container.specs.Quick.{EntriesFit, Held}
-use Rattle.container.proofs.Passes.{both-true, holds, entries-fit, fewer-fit}
+use Rattle.rules.proofs.Facts.{both-true}
+use Rattle.container.proofs.Passes.{holds, entries-fit, fewer-fit}
 use Rattle.container.proofs.quick.lists_pass.Statement.{statement}
 use Rattle.container.proofs.quick.lists_pass.Tie as tie
 

@@ -1,8 +1,8 @@
-use mathlib.Core.Path.{_≡_, refl, sym, ap, _∙_}
-use Prim.Native.Nat.{_-_, _+_, _*_, _≤_, _<_}
+use mathlib.Core.Path.{_≡_, refl}
+use Prim.Native.Nat.{_-_, _≤_, _<_}
 use native.Mathlib.Omega.{arith}
 use borrow.Author.Needs.{needs}
-use lib.ListN.{length, getD, take}
+use lib.ListN.{length, take}
 use Rattle.runner.proofs.Counted.{Done, done-none, done-more, done-few, done-length}
 use Rattle.runner.proofs.outputs.drop_empty.Statement.{statement}
 use Rattle.runner.proofs.outputs.drop_empty.Tie as tie

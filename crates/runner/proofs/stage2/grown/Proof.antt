@@ -1,9 +1,7 @@
-use mathlib.Core.Path.{_≡_, refl, ap, ap₂, sym, _∙_, subst}
-use Prim.Native.Nat.{ℕ, _*_, _-_, max}
+use mathlib.Core.Path.{refl, ap, _∙_, subst}
+use Prim.Native.Nat.{_*_, _-_, max}
 use native.Mathlib.Omega.{arith}
-use lib.ListN.{length}
 use borrow.Author.Needs.{needs}
-use Rattle.runner.specs.declared.stage2.Turns.{Turns}
 use Rattle.runner.specs.Queue.{KeySet}
 use Rattle.runner.specs.Stage2.{queuePart}
 use Rattle.runner.proofs.Parts.{part-length}

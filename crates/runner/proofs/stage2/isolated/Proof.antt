@@ -1,6 +1,5 @@
-use mathlib.Core.Path.{_≡_, refl, sym, ap₂, _∙_, subst}
-use mathlib.Core.Bool.{true, false, _&&_, _||_}
-use lib.Dec.{leb}
+use mathlib.Core.Path.{_≡_, refl, sym, subst}
+use mathlib.Core.Bool.{true, false}
 use borrow.Author.Needs.{needs}
 use Rattle.rules.specs.Color.{discards}
 use Rattle.runner.specs.Types.{configOf}
