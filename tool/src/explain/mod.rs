@@ -1,0 +1,189 @@
+//! Why a pixel of the sheet is as it is: what the buffers of the run say, checked before it is said.
+
+mod words;
+
+use std::collections::HashSet;
+
+use serde::Serialize;
+
+use crate::cluster::Cluster;
+use crate::colour::{Rgba, Sum};
+use crate::failure::Failure;
+use crate::image::Image;
+use crate::nesting::Nesting;
+use crate::settings::Settings;
+use crate::sheet::{Sheet, Slot};
+
+/// All that is said of one pixel, under the names that the JSON has.
+#[derive(Clone, Debug, Serialize)]
+pub struct Explanation {
+    pub x: u32,
+    pub y: u32,
+    /// In the chart.
+    pub colour: Rgba,
+    /// On the sheet.
+    pub shown: Rgba,
+    /// The cluster that the pixel's label names.
+    pub label: u32,
+    /// Whether the pixel has the key colour and was left out.
+    pub discarded: bool,
+    /// The smallest cluster that stands and holds the pixel.
+    pub smallest: Option<u32>,
+    /// The cluster whose shade is shown; none where the sheet is empty.
+    pub painted_by: Option<u32>,
+    /// The clusters that hold the pixel, from inner to outer.
+    pub holders: Vec<Cluster>,
+    /// What lies directly inside the smallest.
+    pub inside: Vec<Inner>,
+}
+
+/// A cluster inside another.
+#[derive(Clone, Debug, Serialize)]
+pub struct Inner {
+    #[serde(flatten)]
+    pub cluster: Cluster,
+    /// Whether it counts as a hole of the other.
+    pub hole: bool,
+}
+
+/// A run that is asked about its pixels.
+#[derive(Clone, Copy)]
+pub struct Asked<'a> {
+    pub chart: &'a Image,
+    pub sheet: &'a Sheet,
+    pub settings: &'a Settings,
+}
+
+impl Asked<'_> {
+    /// Explains the pixel in column `x` and row `y`, which lies on the chart.
+    pub fn explain(&self, x: u32, y: u32) -> Result<Explanation, Failure> {
+        let pixel = self.sheet.width as usize * y as usize + x as usize;
+        let label = *self
+            .sheet
+            .labels
+            .get(pixel)
+            .ok_or_else(|| off_the_sheet(x, y))?;
+        let colour = Rgba::at(&self.chart.bytes, pixel).ok_or_else(|| off_the_sheet(x, y))?;
+        let shown = Rgba::at(&self.sheet.picture, pixel).ok_or_else(|| off_the_sheet(x, y))?;
+        let nesting = Nesting::of(self.sheet, label)?;
+        let slots = nesting.holders(pixel);
+        // The last output is painted first, so of those that hold the pixel the first one shows.
+        let holds = |number: &&u32| slots.iter().any(|slot| slot.number == **number);
+        let explanation = Explanation {
+            x,
+            y,
+            colour,
+            shown,
+            label,
+            discarded: self.settings.discards(colour),
+            smallest: slots.first().map(|slot| slot.number),
+            painted_by: self.sheet.outputs().iter().find(holds).copied(),
+            holders: self.clusters(&slots)?,
+            inside: self.inside(&nesting, slots.first())?,
+        };
+        self.check(&explanation, &nesting, &slots)?;
+        Ok(explanation)
+    }
+
+    fn clusters(&self, slots: &[Slot]) -> Result<Vec<Cluster>, Failure> {
+        let put_out: HashSet<&u32> = self.sheet.outputs().iter().collect();
+        let cluster = |slot: &Slot| Cluster::of(slot, put_out.contains(&slot.number));
+        slots.iter().map(cluster).collect()
+    }
+
+    fn inside(&self, nesting: &Nesting, outer: Option<&Slot>) -> Result<Vec<Inner>, Failure> {
+        let Some(outer) = outer else {
+            return Ok(Vec::new());
+        };
+        let holes = self.sheet.hole_children(outer)?;
+        let inner = self.clusters(&nesting.inside(outer))?;
+        let inner: Vec<Inner> = inner
+            .into_iter()
+            .map(|cluster| Inner {
+                hole: holes.contains(&cluster.number),
+                cluster,
+            })
+            .collect();
+        let found = inner.iter().filter(|inner| inner.hole).count();
+        ensure(found == holes.len(), "a hole does not lie inside")?;
+        Ok(inner)
+    }
+
+    /// Holds every statement against the chart, the picture and the lists.
+    fn check(&self, said: &Explanation, nesting: &Nesting, slots: &[Slot]) -> Result<(), Failure> {
+        let rising = slots
+            .windows(2)
+            .all(|pair| pair[0].pixel_count < pair[1].pixel_count);
+        ensure(rising, "the clusters that hold the pixel are not nested")?;
+        let around = slots
+            .iter()
+            .all(|slot| slot.rectangle.contains(said.x, said.y));
+        ensure(around, "the pixel lies outside a rectangle of its cluster")?;
+        ensure(
+            said.discarded == slots.is_empty(),
+            "a pixel is held by no cluster, or should be",
+        )?;
+        let outermost = slots.last().map_or(0, |slot| slot.number);
+        ensure(
+            outermost == said.label,
+            "the label does not name the outermost cluster",
+        )?;
+        let inner: u32 = said.inside.iter().map(|inner| inner.cluster.size).sum();
+        let smallest = slots
+            .first()
+            .map_or(0, |slot| slot.pixel_count - slot.residue.count);
+        ensure(
+            inner == smallest,
+            "the pixels left to a cluster are miscounted",
+        )?;
+        self.check_shade(said, nesting, slots)
+    }
+
+    /// The shade that is shown is the average of just the pixels left to the cluster that is named.
+    fn check_shade(
+        &self,
+        said: &Explanation,
+        nesting: &Nesting,
+        slots: &[Slot],
+    ) -> Result<(), Failure> {
+        let painter = slots
+            .iter()
+            .find(|slot| Some(slot.number) == said.painted_by);
+        let Some(painter) = painter else {
+            ensure(
+                said.shown == Rgba::default(),
+                "the sheet shows a shade that no output gives",
+            )?;
+            return ensure(
+                self.settings.keying(),
+                "no output holds the pixel, though no key is set",
+            );
+        };
+        ensure(
+            painter.shade()? == said.shown,
+            "the sheet shows another shade",
+        )?;
+        let innermost = said.painted_by == said.smallest || self.settings.keying();
+        ensure(innermost, "the shade is not that of the smallest cluster")?;
+        let mut sum = Sum::default();
+        for pixel in nesting.own_pixels(painter) {
+            sum.add(Rgba::at(&self.chart.bytes, pixel).unwrap_or_default());
+        }
+        ensure(
+            sum == painter.residue,
+            "the sum is not that of the pixels left to the cluster",
+        )
+    }
+}
+
+fn off_the_sheet(x: u32, y: u32) -> Failure {
+    Failure::Internal(format!("pixel ({x}, {y}) is not on the sheet"))
+}
+
+fn ensure(holds: bool, otherwise: &str) -> Result<(), Failure> {
+    if holds {
+        Ok(())
+    } else {
+        Err(Failure::Internal(otherwise.to_string()))
+    }
+}

@@ -1,0 +1,158 @@
+//! An explanation in plain words.
+
+use std::fmt;
+
+use super::Explanation;
+use crate::cluster::Cluster;
+use crate::colour::{Rgba, Sum};
+use crate::text::{counted, grouped, table};
+
+impl fmt::Display for Explanation {
+    fn fmt(&self, out: &mut fmt::Formatter) -> fmt::Result {
+        writeln!(
+            out,
+            "Column {}, row {}, counted from 0 at the top left\n",
+            self.x, self.y
+        )?;
+        writeln!(out, "  in the chart  {}", in_words(self.colour))?;
+        writeln!(out, "  on the sheet  {}", in_words(self.shown))?;
+        writeln!(out, "  label         {}\n", self.label_in_words())?;
+        writeln!(out, "Why this patch\n\n{}", self.why_this_patch())?;
+        writeln!(out, "Why this shade\n\n{}", self.why_this_shade())?;
+        if let Some(smallest) = self.holders.first() {
+            writeln!(
+                out,
+                "The clusters that hold this pixel, from inner to outer\n"
+            )?;
+            writeln!(out, "{}", lines(self.holders.iter()))?;
+            writeln!(out, "What lies inside cluster {}\n", smallest.number)?;
+            write!(out, "{}", self.what_lies_inside())?;
+        }
+        Ok(())
+    }
+}
+
+impl Explanation {
+    fn label_in_words(&self) -> String {
+        match (self.discarded, self.holders.len()) {
+            (true, _) => "0, which every discarded pixel has; no cluster holds it".to_string(),
+            (false, 1) => format!("cluster {}", self.label),
+            _ => format!(
+                "cluster {}, the outermost that holds this pixel",
+                self.label
+            ),
+        }
+    }
+
+    fn why_this_patch(&self) -> String {
+        let Some(smallest) = self.holders.first() else {
+            return "  The pixel has the key colour, and --discard leaves such pixels out. It belongs to no patch.\n".to_string();
+        };
+        let (left, right) = smallest.rectangle.columns();
+        let (top, bottom) = smallest.rectangle.rows();
+        let inner = smallest.size - smallest.own_pixels;
+        let rest = match inner {
+            0 => "All of them are left to it: no smaller cluster lies inside.".to_string(),
+            _ => format!(
+                "{} of them {} left to it. The other {} in smaller clusters inside it, which have shades of their own.",
+                grouped(smallest.own_pixels),
+                if smallest.own_pixels == 1 { "is" } else { "are" },
+                if inner == 1 { "1 lies".to_string() } else { format!("{} lie", grouped(inner)) },
+            ),
+        };
+        format!(
+            "  The smallest cluster that holds this pixel is cluster {}.\n  \
+             It has {}, in columns {left} to {right} and rows {top} to {bottom}.\n  {rest}\n",
+            smallest.number,
+            counted(smallest.size, "pixel"),
+        )
+    }
+
+    fn why_this_shade(&self) -> String {
+        let painter = self
+            .holders
+            .iter()
+            .find(|holder| Some(holder.number) == self.painted_by);
+        match (painter, self.smallest) {
+            (Some(painter), Some(smallest)) if painter.number != smallest => format!(
+                "  Cluster {smallest} was not put out, so it is not painted. Of the clusters that were put out and hold\n  \
+                 this pixel, cluster {} is painted over the others.\n{}",
+                painter.number,
+                division(painter)
+            ),
+            (Some(painter), _) => division(painter),
+            (None, Some(smallest)) => format!(
+                "  Cluster {smallest} holds the pixel, but neither it nor any cluster around it was put out, so nothing\n  \
+                 is painted here. Where nothing is painted the sheet is empty: all four channels are 0.\n"
+            ),
+            (None, None) => "  No cluster holds the pixel, so nothing is painted here. Where nothing is painted the sheet is\n  \
+                 empty: all four channels are 0.\n".to_string(),
+        }
+    }
+
+    fn what_lies_inside(&self) -> String {
+        if self.inside.is_empty() {
+            return "  Nothing: no smaller cluster.\n".to_string();
+        }
+        let holes: Vec<String> = self
+            .inside
+            .iter()
+            .filter(|inner| inner.hole)
+            .map(|inner| inner.cluster.number.to_string())
+            .collect();
+        let note = match holes.as_slice() {
+            [] => "None of them is a hole".to_string(),
+            [one] => format!("Cluster {one} is a hole"),
+            [first @ .., last] => format!("Clusters {} and {last} are holes", first.join(", ")),
+        };
+        format!(
+            "{}  {note} (a hole touches no more clusters than hollow_neighbours says).\n",
+            lines(self.inside.iter().map(|inner| &inner.cluster))
+        )
+    }
+}
+
+/// A table of clusters.
+fn lines<'a>(clusters: impl Iterator<Item = &'a Cluster>) -> String {
+    let rows: Vec<_> = clusters.map(Cluster::cells).collect();
+    table(Cluster::HEADINGS, &rows)
+}
+
+/// How the shade of a cluster comes about.
+fn division(cluster: &Cluster) -> String {
+    let Sum { count, .. } = cluster.residue;
+    let averages = cluster.shade.bytes();
+    let rows: Vec<_> = cluster
+        .residue
+        .channels()
+        .into_iter()
+        .zip(averages)
+        .map(|((name, total), average)| {
+            let rest = total - u32::from(average) * count;
+            format!(
+                "    {name:5}  {} / {} = {average}, rest {}\n",
+                grouped(total),
+                grouped(count),
+                grouped(rest)
+            )
+        })
+        .collect();
+    format!(
+        "  The sheet shows the average of the {} left to cluster {}.\n  \
+         Each channel is added up, divided by their number and rounded down:\n\n{}",
+        counted(count, "pixel"),
+        cluster.number,
+        rows.concat()
+    )
+}
+
+/// A colour as hex digits and as numbers.
+fn in_words(colour: Rgba) -> String {
+    let Rgba { r, g, b, a } = colour;
+    let empty = if colour == Rgba::default() {
+        " (empty)"
+    } else {
+        ""
+    };
+    format!("{colour}  red {r}, green {g}, blue {b}, alpha {a}{empty}")
+}
