@@ -5,7 +5,7 @@ use crate::image::Image;
 use crate::sheet::Sheet;
 
 /// The longer side that a picture of a small sheet is enlarged to, about.
-const SIDE: u32 = 800;
+const SIDE: u32 = 1000;
 
 /// How many pixels a side of one pixel of the sheet becomes: enough for a line along its edge.
 const LEAST: u32 = 4;
@@ -14,17 +14,33 @@ const MOST: u32 = 32;
 /// The grey that all but the cluster fades towards.
 const FADED: u16 = 208;
 
-/// The sheet enlarged, the cluster with these pixels outlined and the rest dimmed.
-pub fn outlined(sheet: &Sheet, pixels: &[usize]) -> Image {
-    let mut inside = vec![false; sheet.labels.len()];
-    for pixel in pixels {
-        inside[*pixel] = true;
+/// How dark a shade must be for the line on it to be white: red, green and blue weighed 2 : 5 : 1.
+const DARK: u32 = 8 * 48;
+
+/// Where a pixel of the sheet lies.
+#[derive(Clone, Copy, Debug, PartialEq, Eq)]
+enum Part {
+    Outside,
+    /// In a cluster inside the one that is shown.
+    Inner,
+    /// Left to the one that is shown.
+    Own,
+}
+
+/// The sheet enlarged, with the cluster of these pixels outlined and the rest dimmed. A line also
+/// parts the pixels that are left to it from those of clusters inside it.
+pub fn outlined(sheet: &Sheet, pixels: &[usize], own: &[usize]) -> Image {
+    let mut parts = vec![Part::Outside; sheet.labels.len()];
+    for (list, part) in [(pixels, Part::Inner), (own, Part::Own)] {
+        for pixel in list {
+            parts[*pixel] = part;
+        }
     }
     let longer = sheet.width.max(sheet.height).max(1);
     let scale = (SIDE / longer).clamp(LEAST, MOST);
     let drawing = Drawing {
         sheet,
-        inside,
+        parts,
         scale,
     };
     let (width, height) = (sheet.width * scale, sheet.height * scale);
@@ -43,8 +59,8 @@ pub fn outlined(sheet: &Sheet, pixels: &[usize]) -> Image {
 
 struct Drawing<'a> {
     sheet: &'a Sheet,
-    /// For each pixel of the sheet, whether the cluster holds it.
-    inside: Vec<bool>,
+    /// For each pixel of the sheet.
+    parts: Vec<Part>,
     scale: u32,
 }
 
@@ -54,39 +70,38 @@ impl Drawing<'_> {
         let (column, row) = (x / self.scale, y / self.scale);
         let pixel = row as usize * self.sheet.width as usize + column as usize;
         let shade = Rgba::at(&self.sheet.picture, pixel).unwrap_or_default();
-        if !self.holds(column.into(), row.into()) {
-            return dimmed(shade);
+        match self.part(column.into(), row.into()) {
+            Part::Outside => dimmed(shade),
+            part if self.near_less(x, y, part) => line_over(shade),
+            _ => shade,
         }
-        if self.at_the_edge(x, y) {
-            return line_over(shade);
-        }
-        shade
     }
 
-    /// Whether a place in the cluster is on its outline: near a pixel, also at a corner, that is not in it.
-    fn at_the_edge(&self, x: u32, y: u32) -> bool {
-        let thickness = i64::from((self.scale / 8).max(1));
+    /// Whether a place is on a line: near a pixel, also at a corner, that lies further out or is less its own.
+    fn near_less(&self, x: u32, y: u32, part: Part) -> bool {
+        let thickness = i64::from((self.scale / 4).min(4));
         let scale = i64::from(self.scale);
-        let (x, y) = (i64::from(x), i64::from(y));
-        let near = |place: i64| {
-            [
-                (place - thickness).div_euclid(scale),
-                (place + thickness).div_euclid(scale),
-            ]
+        let near = |place: u32| {
+            [-thickness, thickness].map(|step| (i64::from(place) + step).div_euclid(scale))
+        };
+        let less = |column, row| match self.part(column, row) {
+            Part::Outside => true,
+            Part::Inner => part == Part::Own,
+            Part::Own => false,
         };
         near(x)
             .iter()
-            .any(|column| near(y).iter().any(|row| !self.holds(*column, *row)))
+            .any(|column| near(y).iter().any(|row| less(*column, *row)))
     }
 
-    /// Whether the cluster holds a pixel; off the sheet it holds none.
-    fn holds(&self, column: i64, row: i64) -> bool {
+    /// Where a pixel lies; off the sheet all is outside.
+    fn part(&self, column: i64, row: i64) -> Part {
         let (width, height) = (i64::from(self.sheet.width), i64::from(self.sheet.height));
         if !(0..width).contains(&column) || !(0..height).contains(&row) {
-            return false;
+            return Part::Outside;
         }
         let pixel = usize::try_from(row * width + column).unwrap_or(usize::MAX);
-        self.inside.get(pixel) == Some(&true)
+        self.parts.get(pixel).copied().unwrap_or(Part::Outside)
     }
 }
 
@@ -101,10 +116,10 @@ fn dimmed(shade: Rgba) -> Rgba {
     }
 }
 
-/// Black on a light shade, white on a dark one.
+/// Black, but white on a dark shade.
 fn line_over(shade: Rgba) -> Rgba {
     let light = 2 * u32::from(shade.r) + 5 * u32::from(shade.g) + u32::from(shade.b);
-    let level = if light > 8 * 127 { 0 } else { 255 };
+    let level = if light < DARK { 255 } else { 0 };
     Rgba {
         r: level,
         g: level,
@@ -122,24 +137,31 @@ mod tests {
         Rgba::at(&image.bytes, y * image.width as usize + x).unwrap()
     }
 
+    const BLACK: Rgba = Rgba {
+        r: 0,
+        g: 0,
+        b: 0,
+        a: 255,
+    };
+    const WHITE: Rgba = Rgba {
+        r: 255,
+        g: 255,
+        b: 255,
+        a: 255,
+    };
+
     #[test]
     fn the_cluster_stands_out() {
-        let image = outlined(&black_in_white(), &[0]);
+        let image = outlined(&black_in_white(), &[0], &[0]);
         assert_eq!((image.width, image.height), (64, 32));
-        let [black, white] = [0, 255].map(|level| Rgba {
-            r: level,
-            g: level,
-            b: level,
-            a: 255,
-        });
-        assert_eq!(at(&image, 16, 16), black);
-        assert_eq!(at(&image, 0, 16), white);
-        assert_eq!(at(&image, 31, 16), white);
-        assert_eq!(at(&image, 16, 0), white);
-        assert_eq!(at(&image, 4, 4), black);
-        assert_eq!(at(&image, 32, 16), dimmed(white));
+        assert_eq!(at(&image, 16, 16), BLACK);
+        for (x, y) in [(0, 16), (31, 16), (16, 0), (16, 31), (0, 0)] {
+            assert_eq!(at(&image, x, y), WHITE, "{x} {y}");
+        }
+        assert_eq!(at(&image, 4, 4), BLACK);
+        assert_eq!(at(&image, 32, 16), dimmed(WHITE));
         assert_eq!(
-            dimmed(white),
+            dimmed(WHITE),
             Rgba {
                 r: 223,
                 g: 223,
@@ -150,32 +172,15 @@ mod tests {
     }
 
     #[test]
-    fn a_cluster_that_is_all_is_outlined_at_the_border() {
-        let image = outlined(&black_in_white(), &[0, 1]);
-        let white = Rgba {
-            r: 255,
-            g: 255,
-            b: 255,
-            a: 255,
-        };
-        assert_eq!(at(&image, 32, 16), white);
-        assert_eq!(
-            at(&image, 63, 16),
-            Rgba {
-                r: 0,
-                g: 0,
-                b: 0,
-                a: 255
-            }
-        );
-        assert_eq!(
-            at(&image, 30, 16),
-            Rgba {
-                r: 0,
-                g: 0,
-                b: 0,
-                a: 255
-            }
-        );
+    fn a_line_parts_what_lies_inside() {
+        let image = outlined(&black_in_white(), &[1, 0], &[1]);
+        // The white pixel is its own, the black one lies inside.
+        assert_eq!(at(&image, 48, 16), WHITE);
+        assert_eq!(at(&image, 32, 16), BLACK);
+        assert_eq!(at(&image, 63, 16), BLACK);
+        assert_eq!(at(&image, 31, 16), BLACK);
+        assert_eq!(at(&image, 0, 16), WHITE);
+        let whole = outlined(&black_in_white(), &[1, 0], &[1, 0]);
+        assert_eq!(at(&whole, 32, 16), WHITE);
     }
 }

@@ -31,11 +31,11 @@ pub struct Settings {
     )]
     pub is_same_color_b: i32,
 
-    /// Clusters with more pixels than this are never merged; the default lets patches lie inside patches
+    /// A cluster with more pixels than this is not merged into another; the default lets patches lie inside patches
     #[arg(long = "hierarchical", value_name = "PIXELS", default_value_t = HIERARCHICAL_MAX)]
     pub hierarchical: u32,
 
-    /// A cluster stays a patch of its own only if it has more pixels than this
+    /// A cluster can stay a patch inside another only if it has more pixels than this
     #[arg(
         long = "good_min_area",
         alias = "good-min-area",
@@ -44,7 +44,7 @@ pub struct Settings {
     )]
     pub good_min_area: u32,
 
-    /// A cluster stays a patch of its own inside another only if it has fewer pixels than this
+    /// A cluster can stay a patch inside another only if it has fewer pixels than this
     #[arg(
         long = "good_max_area",
         alias = "good-max-area",
@@ -62,7 +62,7 @@ pub struct Settings {
     )]
     pub hollow_neighbours: u32,
 
-    /// A cluster stays a patch of its own only if its colour differs from the nearest neighbour's by more than this
+    /// A cluster can stay a patch inside another only if their colours differ by more than this
     #[arg(
         long = "deepen_diff",
         alias = "deepen-diff",
@@ -76,7 +76,7 @@ pub struct Settings {
     #[arg(long, value_name = "RRGGBB[AA]", value_parser = key_colour)]
     key: Option<Rgba>,
 
-    /// Pixels of the key colour form cluster 0 (this is the default)
+    /// Pixels of the key colour begin in cluster 0 (this is the default)
     #[arg(long, requires = "key", conflicts_with = "discard")]
     keep: bool,
 

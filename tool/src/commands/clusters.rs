@@ -18,9 +18,9 @@ use crate::text::{counted, table};
 /// Lists the clusters that are painted on the sheet
 #[derive(Args, Debug)]
 #[command(
-    after_help = "Columns and rows are those of the smallest rectangle around the cluster, counted from 0. The shade is\n\
-        the average of the pixels left to the cluster: those that no cluster inside it holds. Depth is how many\n\
-        clusters were put inside it; holes are those of them that touch at most hollow_neighbours clusters.\n\n\
+    after_help = "Columns and rows are those of the smallest rectangle around the cluster, counted from 0. The shade \
+        is the average of the pixels left to the cluster: those that no cluster inside it holds. Depth is how \
+        many clusters were put inside it; holes are those of them that touch at most hollow_neighbours clusters.\n\n\
         Exit status: 0 listed, 1 a chart was refused or failed (the others are listed), 2 bad usage."
 )]
 pub struct Clusters {

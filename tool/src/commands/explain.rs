@@ -22,9 +22,9 @@ use crate::writing::Part;
 /// Says why a pixel is in its patch and where its shade comes from
 #[derive(Args, Debug)]
 #[command(
-    after_help = "A cluster is a patch of pixels that the clustering put together; one may lie inside another. It is put\n\
-        out when it is painted on the sheet. The pixels left to a cluster are those that no cluster inside it\n\
-        holds; the shade is their average. Give the same settings as for the sheet.\n\n\
+    after_help = "A cluster is a patch of pixels that the clustering put together; one may lie inside another. \
+        It is put out when it is painted on the sheet. The pixels left to a cluster are those that no cluster \
+        inside it holds; the shade is their average. Give the same settings as for the sheet.\n\n\
         Exit status: 0 explained, 1 the chart was refused or has no such pixel, 2 bad usage."
 )]
 pub struct Explain {
@@ -73,7 +73,7 @@ impl Explain {
         };
         let explanation = asked.explain(self.x, self.y)?;
         let picture = match (&self.picture, format) {
-            (Some(path), Some(format)) => Some(draw(path, format, &run, &explanation)?),
+            (Some(path), Some(format)) => Some(draw(path, format, asked, &explanation)?),
             _ => None,
         };
         self.print(&run, &explanation)?;
@@ -126,13 +126,14 @@ impl Explain {
 fn draw(
     path: &Path,
     format: Format,
-    run: &Run,
+    asked: Asked,
     explanation: &Explanation,
 ) -> Result<Part, Failure> {
     let Some(smallest) = explanation.smallest else {
-        let text = "no cluster holds this pixel (it has the key colour and is discarded), so there is no picture to draw. Leave --picture out.";
+        let text = "no cluster holds this pixel (it has the key colour and is discarded), \
+            so there is nothing to outline. Leave --picture out, or give another pixel.";
         return Err(Failure::File(text.to_string()));
     };
-    let pixels = run.sheet.list(&run.sheet.slot(smallest)?)?;
-    Part::write(path, &outlined(&run.sheet, &pixels).encode(format)?)
+    let (pixels, own) = asked.pixels(smallest, explanation.label)?;
+    Part::write(path, &outlined(asked.sheet, &pixels, &own).encode(format)?)
 }

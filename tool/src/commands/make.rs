@@ -24,8 +24,8 @@ use crate::writing::{place_for, Part};
 #[derive(Args, Debug)]
 #[command(
     override_usage = "sheet make [OPTIONS] CHART SHEET\n       sheet make [OPTIONS] --out-dir DIR CHART...",
-    after_help = "A chart is PNG of any kind, or PAM. Of channels with 16 bits the high byte counts; other MAXVALs of a\n\
-        PAM are scaled to 0..255, to the nearest step. The sheet is PNG or PAM by the ending of its name.\n\
+    after_help = "A chart is PNG of any kind, or PAM. Of a channel with 16 bits the high byte counts; other MAXVALs of \
+        a PAM are scaled to 0..255, to the nearest step. The sheet is PNG or PAM by the ending of its name. \
         - is standard input or output; a sheet on standard output is PAM.\n\n\
         Exit status: 0 all made, 1 a chart was refused or failed (the others are made), 2 bad usage."
 )]

@@ -85,6 +85,13 @@ impl Asked<'_> {
         Ok(explanation)
     }
 
+    /// All pixels of the cluster `number`, and those of them that are left to it.
+    pub fn pixels(&self, number: u32, label: u32) -> Result<(Vec<usize>, Vec<usize>), Failure> {
+        let slot = self.sheet.slot(number)?;
+        let own = Nesting::of(self.sheet, label)?.own_pixels(&slot);
+        Ok((self.sheet.list(&slot)?, own))
+    }
+
     fn clusters(&self, slots: &[Slot]) -> Result<Vec<Cluster>, Failure> {
         let put_out: HashSet<&u32> = self.sheet.outputs().iter().collect();
         let cluster = |slot: &Slot| Cluster::of(slot, put_out.contains(&slot.number));
