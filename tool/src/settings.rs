@@ -32,7 +32,12 @@ pub struct Settings {
     pub is_same_color_b: i32,
 
     /// A cluster with more pixels than this is not merged into another; the default lets patches lie inside patches
-    #[arg(long = "hierarchical", value_name = "PIXELS", default_value_t = HIERARCHICAL_MAX)]
+    #[arg(
+        long = "hierarchical",
+        value_name = "PIXELS",
+        default_value_t = HIERARCHICAL_MAX,
+        allow_negative_numbers = true
+    )]
     pub hierarchical: u32,
 
     /// A cluster can stay a patch inside another only if it has more pixels than this
@@ -40,7 +45,8 @@ pub struct Settings {
         long = "good_min_area",
         alias = "good-min-area",
         value_name = "PIXELS",
-        default_value_t = 16
+        default_value_t = 16,
+        allow_negative_numbers = true
     )]
     pub good_min_area: u32,
 
@@ -49,7 +55,8 @@ pub struct Settings {
         long = "good_max_area",
         alias = "good-max-area",
         value_name = "PIXELS",
-        default_value_t = 65_536
+        default_value_t = 65_536,
+        allow_negative_numbers = true
     )]
     pub good_max_area: u32,
 
@@ -58,7 +65,8 @@ pub struct Settings {
         long = "hollow_neighbours",
         alias = "hollow-neighbours",
         value_name = "COUNT",
-        default_value_t = 1
+        default_value_t = 1,
+        allow_negative_numbers = true
     )]
     pub hollow_neighbours: u32,
 

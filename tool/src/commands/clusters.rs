@@ -20,7 +20,8 @@ use crate::text::{counted, table};
 #[command(
     after_help = "Columns and rows are those of the smallest rectangle around the cluster, counted from 0. The shade \
         is the average of the pixels left to the cluster: those that no cluster inside it holds. Depth is how \
-        many clusters were put inside it; holes are those of them that touch at most hollow_neighbours clusters.\n\n\
+        many clusters were put inside it, not counting those that a merged cluster brought along; holes are \
+        those of them that touched at most hollow_neighbours clusters then.\n\n\
         Exit status: 0 listed, 1 a chart was refused or failed (the others are listed), 2 bad usage."
 )]
 pub struct Clusters {

@@ -32,9 +32,11 @@ pub struct Explain {
     chart: Place,
 
     /// The pixel's column, counted from 0 at the left
+    #[arg(allow_negative_numbers = true)]
     x: u32,
 
     /// The pixel's row, counted from 0 at the top
+    #[arg(allow_negative_numbers = true)]
     y: u32,
 
     /// Print one line of JSON

@@ -73,20 +73,16 @@ impl Explanation {
             .holders
             .iter()
             .find(|holder| Some(holder.number) == self.painted_by);
-        match (painter, self.smallest) {
-            (Some(painter), Some(smallest)) if painter.number != smallest => format!(
-                "  Cluster {smallest} was not put out, so it is not painted. Of the clusters that were put out and hold\n  \
-                 this pixel, cluster {} is painted over the others.\n{}",
-                painter.number,
-                division(painter)
-            ),
+        match (painter, self.holders.first()) {
+            (Some(painter), Some(smallest)) if painter.number != smallest.number => {
+                painted_over(painter, smallest) + &division(painter)
+            }
             (Some(painter), _) => division(painter),
             (None, Some(smallest)) => format!(
-                "  Cluster {smallest} holds the pixel, but neither it nor any cluster around it was put out, so nothing\n  \
-                 is painted here. Where nothing is painted the sheet is empty: all four channels are 0.\n"
+                "  Cluster {} holds the pixel, but neither it nor any cluster around it was put out.\n{NOTHING}",
+                smallest.number
             ),
-            (None, None) => "  No cluster holds the pixel, so nothing is painted here. Where nothing is painted the sheet is\n  \
-                 empty: all four channels are 0.\n".to_string(),
+            (None, None) => format!("  No cluster holds the pixel.\n{NOTHING}"),
         }
     }
 
@@ -106,9 +102,28 @@ impl Explanation {
             [first @ .., last] => format!("Clusters {} and {last} are holes", first.join(", ")),
         };
         format!(
-            "{}  {note} (a hole touches no more clusters than hollow_neighbours says).\n",
+            "{}  {note} (a hole touched at most hollow_neighbours clusters when it was put inside).\n",
             lines(self.inside.iter().map(|inner| &inner.cluster))
         )
+    }
+}
+
+/// What the sheet shows where no output is painted.
+const NOTHING: &str =
+    "  So nothing is painted here, and the sheet is empty: all four channels are 0.\n";
+
+/// Why the smallest cluster that holds the pixel does not give its shade.
+fn painted_over(painter: &Cluster, smallest: &Cluster) -> String {
+    let (outer, inner) = (painter.number, smallest.number);
+    match smallest.put_out {
+        true => format!(
+            "  Cluster {inner} was put out after cluster {outer}. What was put out last is painted first, so cluster\n  \
+             {outer} is painted over it.\n"
+        ),
+        false => format!(
+            "  Cluster {inner} was not put out, so it is not painted. Of the clusters around it that were put out,\n  \
+             cluster {outer} is painted over the others.\n"
+        ),
     }
 }
 
