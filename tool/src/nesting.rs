@@ -20,6 +20,13 @@ impl Nesting {
     /// The nesting of the cluster that `label` names.
     pub fn of(sheet: &Sheet, label: u32) -> Result<Self, Failure> {
         let list = sheet.list(&sheet.slot(label)?)?;
+        if list
+            .iter()
+            .any(|pixel| sheet.labels.get(*pixel) != Some(&label))
+        {
+            let text = format!("the pixels of cluster {label} are not those of its label");
+            return Err(Failure::Internal(text));
+        }
         let places: HashMap<usize, usize> =
             (0..).zip(&list).map(|(at, pixel)| (*pixel, at)).collect();
         let mut clusters = Vec::new();

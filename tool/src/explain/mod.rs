@@ -1,13 +1,16 @@
 //! Why a pixel of the sheet is as it is: what the buffers of the run say, checked before it is said.
 
+mod check;
 mod words;
 
 use std::collections::HashSet;
 
 use serde::Serialize;
 
+use check::ensure;
+
 use crate::cluster::Cluster;
-use crate::colour::{Rgba, Sum};
+use crate::colour::Rgba;
 use crate::failure::Failure;
 use crate::image::Image;
 use crate::nesting::Nesting;
@@ -81,7 +84,7 @@ impl Asked<'_> {
             holders: self.clusters(&slots)?,
             inside: self.inside(&nesting, slots.first())?,
         };
-        self.check(&explanation, &nesting, &slots)?;
+        check::check(self, &explanation, &nesting, &slots)?;
         Ok(explanation)
     }
 
@@ -115,82 +118,8 @@ impl Asked<'_> {
         ensure(found == holes.len(), "a hole does not lie inside")?;
         Ok(inner)
     }
-
-    /// Holds every statement against the chart, the picture and the lists.
-    fn check(&self, said: &Explanation, nesting: &Nesting, slots: &[Slot]) -> Result<(), Failure> {
-        let rising = slots
-            .windows(2)
-            .all(|pair| pair[0].pixel_count < pair[1].pixel_count);
-        ensure(rising, "the clusters that hold the pixel are not nested")?;
-        let around = slots
-            .iter()
-            .all(|slot| slot.rectangle.contains(said.x, said.y));
-        ensure(around, "the pixel lies outside a rectangle of its cluster")?;
-        ensure(
-            said.discarded == slots.is_empty(),
-            "a pixel is held by no cluster, or should be",
-        )?;
-        let outermost = slots.last().map_or(0, |slot| slot.number);
-        ensure(
-            outermost == said.label,
-            "the label does not name the outermost cluster",
-        )?;
-        let inner: u32 = said.inside.iter().map(|inner| inner.cluster.size).sum();
-        let smallest = slots
-            .first()
-            .map_or(0, |slot| slot.pixel_count - slot.residue.count);
-        ensure(
-            inner == smallest,
-            "the pixels left to a cluster are miscounted",
-        )?;
-        self.check_shade(said, nesting, slots)
-    }
-
-    /// The shade that is shown is the average of just the pixels left to the cluster that is named.
-    fn check_shade(
-        &self,
-        said: &Explanation,
-        nesting: &Nesting,
-        slots: &[Slot],
-    ) -> Result<(), Failure> {
-        let painter = slots
-            .iter()
-            .find(|slot| Some(slot.number) == said.painted_by);
-        let Some(painter) = painter else {
-            ensure(
-                said.shown == Rgba::default(),
-                "the sheet shows a shade that no output gives",
-            )?;
-            return ensure(
-                self.settings.keying(),
-                "no output holds the pixel, though no key is set",
-            );
-        };
-        ensure(
-            painter.shade()? == said.shown,
-            "the sheet shows another shade",
-        )?;
-        let innermost = said.painted_by == said.smallest || self.settings.keying();
-        ensure(innermost, "the shade is not that of the smallest cluster")?;
-        let mut sum = Sum::default();
-        for pixel in nesting.own_pixels(painter) {
-            sum.add(Rgba::at(&self.chart.bytes, pixel).unwrap_or_default());
-        }
-        ensure(
-            sum == painter.residue,
-            "the sum is not that of the pixels left to the cluster",
-        )
-    }
 }
 
 fn off_the_sheet(x: u32, y: u32) -> Failure {
     Failure::Internal(format!("pixel ({x}, {y}) is not on the sheet"))
-}
-
-fn ensure(holds: bool, otherwise: &str) -> Result<(), Failure> {
-    if holds {
-        Ok(())
-    } else {
-        Err(Failure::Internal(otherwise.to_string()))
-    }
 }
