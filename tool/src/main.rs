@@ -59,7 +59,7 @@ fn main() -> ExitCode {
         eprintln!("sheet: signals can't be watched: {error}");
         return ExitCode::from(1);
     }
-    let (name, result) = match &command {
+    let (name, result) = match command {
         Command::Make(make) => ("make", make.run()),
         Command::Explain(explain) => ("explain", explain.run()),
         Command::Clusters(clusters) => ("clusters", clusters.run()),
@@ -73,10 +73,7 @@ fn main() -> ExitCode {
             2
         }
         Err(failure) => {
-            match &command {
-                Command::Explain(explain) => batch::tell(&explain.chart().chart_name(), &failure),
-                _ => eprintln!("sheet: {failure}"),
-            }
+            eprintln!("sheet: {failure}");
             1
         }
     })

@@ -8,25 +8,33 @@ use std::collections::HashMap;
 use crate::failure::Failure;
 use crate::sheet::{Sheet, Slot};
 
-/// All clusters that stand in the outermost cluster of one label.
+/// All clusters that stand in one outermost cluster.
 pub struct Nesting {
-    /// The pixels of the outermost cluster, in the order of its list.
+    /// The number of the outermost cluster.
+    pub outermost: u32,
+    /// Its pixels, in the order of its list.
     list: Vec<usize>,
     /// The clusters, each with the place in the list where its own begins.
     clusters: Vec<(usize, Slot)>,
 }
 
 impl Nesting {
-    /// The nesting of the cluster that `label` names.
-    pub fn of(sheet: &Sheet, label: u32) -> Result<Self, Failure> {
-        let list = sheet.list(&sheet.slot(label)?)?;
-        if list
-            .iter()
-            .any(|pixel| sheet.labels.get(*pixel) != Some(&label))
-        {
-            let text = format!("the pixels of cluster {label} are not those of its label");
-            return Err(Failure::Internal(text));
+    /// The nesting around a pixel; none where no list has the pixel. A cluster is outermost when its
+    /// pixels bear its number, and every other that stands lies in such a one.
+    pub fn around(sheet: &Sheet, pixel: usize) -> Result<Option<Self>, Failure> {
+        for slot in sheet.slots().filter(Slot::stands) {
+            let first = (slot.first_pixel as usize).wrapping_sub(1);
+            if sheet.labels.get(first) == Some(&slot.number) {
+                let list = sheet.list(&slot)?;
+                if list.contains(&pixel) {
+                    return Self::of(sheet, slot.number, list).map(Some);
+                }
+            }
         }
+        Ok(None)
+    }
+
+    fn of(sheet: &Sheet, outermost: u32, list: Vec<usize>) -> Result<Self, Failure> {
         let places: HashMap<usize, usize> =
             (0..).zip(&list).map(|(at, pixel)| (*pixel, at)).collect();
         let mut clusters = Vec::new();
@@ -38,11 +46,14 @@ impl Nesting {
         }
         let fits = |(start, slot): &(usize, Slot)| start + slot.pixel_count as usize <= list.len();
         if places.len() != list.len() || !clusters.iter().all(fits) {
-            return Err(Failure::Internal(format!(
-                "the lists in cluster {label} do not nest"
-            )));
+            let text = format!("the lists in cluster {outermost} do not nest");
+            return Err(Failure::Internal(text));
         }
-        Ok(Self { list, clusters })
+        Ok(Self {
+            outermost,
+            list,
+            clusters,
+        })
     }
 
     /// The clusters that hold a pixel, from inner to outer. They are nested, so the smaller is inside.
@@ -132,7 +143,8 @@ mod tests {
     #[test]
     fn a_patch_inside_a_patch() {
         let sheet = black_in_white();
-        let nesting = Nesting::of(&sheet, 2).unwrap();
+        let nesting = Nesting::around(&sheet, 0).unwrap().unwrap();
+        assert_eq!(nesting.outermost, 2);
         assert_eq!(numbers(&nesting.holders(0)), [1, 2]);
         assert_eq!(numbers(&nesting.holders(1)), [2]);
         let [inner, outer] = [1, 2].map(|number| sheet.slot(number).unwrap());
@@ -164,7 +176,7 @@ mod tests {
     #[test]
     fn only_what_is_directly_inside_is_named() {
         let sheet = row_of_eight();
-        let nesting = Nesting::of(&sheet, 1).unwrap();
+        let nesting = Nesting::around(&sheet, 7).unwrap().unwrap();
         assert_eq!(numbers(&nesting.holders(3)), [3, 2, 1]);
         assert_eq!(numbers(&nesting.holders(5)), [2, 1]);
         assert_eq!(numbers(&nesting.holders(6)), [4, 1]);
@@ -179,7 +191,15 @@ mod tests {
     fn lists_that_do_not_nest_are_noticed() {
         let mut sheet = row_of_eight();
         sheet.table[4 * 21 + 1] = 3;
-        assert!(Nesting::of(&sheet, 1).is_err());
-        assert!(Nesting::of(&row_of_eight(), 9).is_err());
+        assert!(Nesting::around(&sheet, 0).is_err());
+    }
+
+    #[test]
+    fn a_pixel_of_no_list_has_no_nesting() {
+        let mut sheet = row_of_eight();
+        sheet.table[21 + 1] = 7;
+        assert!(Nesting::around(&sheet, 6).unwrap().is_some());
+        assert!(Nesting::around(&sheet, 7).unwrap().is_none());
+        assert!(Nesting::around(&sheet, 8).unwrap().is_none());
     }
 }

@@ -1,6 +1,7 @@
 //! A picture of the sheet in which one cluster stands out.
 
 use crate::colour::{Rgba, CHANNELS};
+use crate::explain::Patch;
 use crate::image::Image;
 use crate::sheet::Sheet;
 
@@ -27,11 +28,11 @@ enum Part {
     Own,
 }
 
-/// The sheet enlarged, with the cluster of these pixels outlined and the rest dimmed. A line also
-/// parts the pixels that are left to it from those of clusters inside it.
-pub fn outlined(sheet: &Sheet, pixels: &[usize], own: &[usize]) -> Image {
+/// The sheet enlarged, with one cluster outlined and the rest dimmed. A line also parts the pixels
+/// that are left to it from those of clusters inside it.
+pub fn outlined(sheet: &Sheet, patch: &Patch) -> Image {
     let mut parts = vec![Part::Outside; sheet.labels.len()];
-    for (list, part) in [(pixels, Part::Inner), (own, Part::Own)] {
+    for (list, part) in [(&patch.pixels, Part::Inner), (&patch.own, Part::Own)] {
         for pixel in list {
             parts[*pixel] = part;
         }
@@ -137,6 +138,13 @@ mod tests {
         Rgba::at(&image.bytes, y * image.width as usize + x).unwrap()
     }
 
+    fn patch(pixels: &[usize], own: &[usize]) -> Patch {
+        Patch {
+            pixels: pixels.to_vec(),
+            own: own.to_vec(),
+        }
+    }
+
     const BLACK: Rgba = Rgba {
         r: 0,
         g: 0,
@@ -152,7 +160,7 @@ mod tests {
 
     #[test]
     fn the_cluster_stands_out() {
-        let image = outlined(&black_in_white(), &[0], &[0]);
+        let image = outlined(&black_in_white(), &patch(&[0], &[0]));
         assert_eq!((image.width, image.height), (64, 32));
         assert_eq!(at(&image, 16, 16), BLACK);
         for (x, y) in [(0, 16), (31, 16), (16, 0), (16, 31), (0, 0)] {
@@ -173,14 +181,14 @@ mod tests {
 
     #[test]
     fn a_line_parts_what_lies_inside() {
-        let image = outlined(&black_in_white(), &[1, 0], &[1]);
+        let image = outlined(&black_in_white(), &patch(&[1, 0], &[1]));
         // The white pixel is its own, the black one lies inside.
         assert_eq!(at(&image, 48, 16), WHITE);
         assert_eq!(at(&image, 32, 16), BLACK);
         assert_eq!(at(&image, 63, 16), BLACK);
         assert_eq!(at(&image, 31, 16), BLACK);
         assert_eq!(at(&image, 0, 16), WHITE);
-        let whole = outlined(&black_in_white(), &[1, 0], &[1, 0]);
+        let whole = outlined(&black_in_white(), &patch(&[1, 0], &[1, 0]));
         assert_eq!(at(&whole, 32, 16), WHITE);
     }
 }

@@ -123,7 +123,8 @@ fn create_beside(target: &Path) -> io::Result<(Listed, File)> {
     Err(ErrorKind::AlreadyExists.into())
 }
 
-fn folder_of(target: &Path) -> &Path {
+/// The folder that a file is in, or would be.
+pub fn folder_of(target: &Path) -> &Path {
     match target.parent() {
         Some(folder) if folder != Path::new("") => folder,
         _ => Path::new("."),

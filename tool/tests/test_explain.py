@@ -171,7 +171,7 @@ class Words(Case):
         self.chart("chart.png", (3, 1, bytes(RED) + bytes(KEY) + bytes(RED)))
         words = ["explain", "chart.png", 1, 0, "--key", "ff00ff", "--discard"]
         said = self.sheet(*words).stdout.decode()
-        self.assertIn("on the sheet  #00000000  red 0, green 0, blue 0, alpha 0 (empty)", said)
+        self.assertIn("on the sheet  #00000000  red 0, green 0, blue 0, alpha 0 (transparent)", said)
         self.assertIn("0, which every discarded pixel has; no cluster holds it", said)
         self.assertIn("--discard leaves such pixels out. It belongs to no patch.", said)
         self.assertIn("No cluster holds the pixel.\n  So nothing is painted here, and the sheet is empty", said)
@@ -188,7 +188,7 @@ class Words(Case):
         said = self.sheet("explain", "chart.png", 4, 0, *options_of(settings)).stdout.decode()
         self.assertIn("Cluster 1 holds the pixel, but neither it nor any cluster around it was put out.", said)
         self.assertIn("So nothing is painted here, and the sheet is empty", said)
-        self.assertIn("(empty)", said)
+        self.assertIn("on the sheet  #00000000", said)
 
     def test_a_pixel_whose_smallest_cluster_is_painted_over(self):
         # With a key that is discarded, a cluster is put out as soon as it touches nothing; one that is put inside it

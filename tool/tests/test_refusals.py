@@ -63,6 +63,8 @@ class Refusals(Case):
         [made] = self.json("make", "header.png", "s.png", "--json", status=1)
         self.assertEqual((made["chart"], made["refusal"]), ("header.png", 3))
         self.assertIn("90,000", made["error"])
+        [said] = self.json("explain", "chart.png", 0, 9, "--json", status=1)
+        self.assertEqual((said["chart"], said["refusal"]), ("chart.png", 11))
         [listed] = self.json("clusters", "absent.png", "--json", status=1)
         self.assertEqual((listed["refusal"], listed["error"]), (None, "there is no such file"))
 

@@ -5,6 +5,8 @@ use std::path::{Path, PathBuf};
 use clap::Args;
 use serde::Serialize;
 
+use super::Failed;
+use crate::batch::tell;
 use crate::explain::{Asked, Explanation};
 use crate::failure::{Failure, Outcome};
 use crate::image::Format;
@@ -65,6 +67,20 @@ struct Answer<'a> {
 impl Explain {
     /// Explains the pixel.
     pub fn run(&self) -> Result<Outcome, Failure> {
+        match self.explain() {
+            Ok(()) => Ok(Outcome::Good),
+            Err(Failure::Usage(text)) => Err(Failure::Usage(text)),
+            Err(failure) => {
+                tell(&self.chart.chart_name(), &failure);
+                if self.json {
+                    print_json(&Failed::of(&self.chart, &failure))?;
+                }
+                Ok(Outcome::Bad)
+            }
+        }
+    }
+
+    fn explain(&self) -> Result<(), Failure> {
         let format = self.picture.as_deref().map(Format::of).transpose()?;
         let run = run(&self.chart, &self.settings)?;
         self.ensure_on_the_chart(&run.sheet)?;
@@ -79,8 +95,7 @@ impl Explain {
             _ => None,
         };
         self.print(&run, &explanation)?;
-        picture.map_or(Ok(()), Part::put)?;
-        Ok(Outcome::Good)
+        picture.map_or(Ok(()), Part::put)
     }
 
     /// Rows are the library's to check; columns are not.
@@ -117,11 +132,6 @@ impl Explain {
             explanation,
         })
     }
-
-    /// The chart, for messages.
-    pub fn chart(&self) -> &Place {
-        &self.chart
-    }
 }
 
 /// The picture, ready to be put in its place.
@@ -131,11 +141,10 @@ fn draw(
     asked: Asked,
     explanation: &Explanation,
 ) -> Result<Part, Failure> {
-    let Some(smallest) = explanation.smallest else {
+    let Some(patch) = asked.patch(explanation.x, explanation.y)? else {
         let text = "no cluster holds this pixel (it has the key colour and is discarded), \
             so there is nothing to outline. Leave --picture out, or give another pixel.";
         return Err(Failure::File(text.to_string()));
     };
-    let (pixels, own) = asked.pixels(smallest, explanation.label)?;
-    Part::write(path, &outlined(asked.sheet, &pixels, &own).encode(format)?)
+    Part::write(path, &outlined(asked.sheet, &patch).encode(format)?)
 }

@@ -18,7 +18,7 @@ use crate::place::Place;
 use crate::run::{self, milliseconds, run};
 use crate::settings::Settings;
 use crate::text::counted;
-use crate::writing::{place_for, Part};
+use crate::writing::{folder_of, place_for, Part};
 
 /// Clusters charts and paints their sheets
 #[derive(Args, Debug)]
@@ -151,40 +151,26 @@ impl Make {
         })
     }
 
-    /// Refuses what would spoil a file: two results for one name, or a result over a chart.
+    /// Refuses what can't be meant.
     fn ensure_sensible(&self, jobs: &[Job]) -> Result<(), Failure> {
         ensure_one_standard(jobs.iter().map(|job| &job.chart))?;
-        let mut targets = HashMap::new();
-        for job in jobs {
-            for target in job.targets() {
-                if let Some(other) = targets.insert(identity(target), &job.chart) {
-                    let charts = [other, &job.chart].map(Place::chart_name).join(" and ");
-                    let target = target.display();
-                    return Err(usage(&format!(
-                        "{target} would be written twice, for {charts}"
-                    )));
-                }
+        ensure_files_apart(jobs)?;
+        jobs.iter()
+            .try_for_each(|job| self.ensure_sheet_can_go(&job.sheet))
+    }
+
+    /// A file's name must give its format, and standard output must be free for a sheet.
+    fn ensure_sheet_can_go(&self, sheet: &Place) -> Result<(), Failure> {
+        match sheet {
+            Place::File(path) => Format::of(path).map(|_| ()),
+            Place::Standard if self.json => {
+                Err(usage("--json and a sheet can't both go to standard output"))
             }
-            match &job.sheet {
-                Place::File(path) => drop(Format::of(path)?),
-                Place::Standard if self.json => return Err(usage("--json and a sheet can't both go to standard output")),
-                Place::Standard if io::stdout().is_terminal() => {
-                    return Err(usage("a sheet is not written to a terminal; give a file, or send it on to another program"))
-                }
-                Place::Standard => (),
-            }
+            Place::Standard if io::stdout().is_terminal() => Err(usage(
+                "a sheet is not written to a terminal; give a file, or send it on to another program",
+            )),
+            Place::Standard => Ok(()),
         }
-        for job in jobs {
-            if let Place::File(path) = &job.chart {
-                if targets.contains_key(&identity(path)) {
-                    return Err(usage(&format!(
-                        "{} is a chart and would be written over",
-                        path.display()
-                    )));
-                }
-            }
-        }
-        Ok(())
     }
 
     /// Makes one sheet.
@@ -222,7 +208,8 @@ impl Make {
 
     /// Writes a file beside its place; the folders of --out-dir and --stored-dir are made where missing.
     fn part(&self, path: &Path, bytes: &[u8]) -> Result<Part, Failure> {
-        if let (Some(_), Some(folder)) = (&self.out_dir, path.parent()) {
+        if self.out_dir.is_some() {
+            let folder = folder_of(path);
             fs::create_dir_all(folder).map_err(|error| {
                 Failure::File(format!(
                     "the folder {} can't be made: {error}",
@@ -257,17 +244,43 @@ impl Made {
     }
 }
 
+/// Refuses what would spoil a file: two results under one name, or a result over a chart.
+fn ensure_files_apart(jobs: &[Job]) -> Result<(), Failure> {
+    let mut targets = HashMap::new();
+    for job in jobs {
+        for target in job.targets() {
+            if let Some(other) = targets.insert(identity(target), &job.chart) {
+                let charts = [other, &job.chart].map(Place::chart_name).join(" and ");
+                let target = target.display();
+                return Err(usage(&format!(
+                    "{target} would be written twice, for {charts}"
+                )));
+            }
+        }
+    }
+    let written_over = |job: &&Job| match &job.chart {
+        Place::File(path) => targets.contains_key(&identity(path)),
+        Place::Standard => false,
+    };
+    match jobs.iter().find(written_over) {
+        None => Ok(()),
+        Some(job) => {
+            let chart = job.chart.chart_name();
+            Err(usage(&format!(
+                "{chart} is a chart and would be written over"
+            )))
+        }
+    }
+}
+
 /// A path by which two names of one file are seen to be one.
 fn identity(path: &Path) -> PathBuf {
-    if let Ok(path) = fs::canonicalize(path) {
-        return path;
-    }
-    let folder = match path.parent() {
-        Some(folder) if folder != Path::new("") => folder,
-        _ => Path::new("."),
+    let folder = folder_of(path);
+    let of_a_new_file = || {
+        let folder = fs::canonicalize(folder).unwrap_or_else(|_| folder.to_path_buf());
+        folder.join(path.file_name().unwrap_or_default())
     };
-    let folder = fs::canonicalize(folder).unwrap_or_else(|_| folder.to_path_buf());
-    folder.join(path.file_name().unwrap_or_default())
+    fs::canonicalize(path).unwrap_or_else(|_| of_a_new_file())
 }
 
 fn usage(text: &str) -> Failure {

@@ -19,7 +19,7 @@ pub fn ensure(holds: bool, otherwise: &str) -> Result<(), Failure> {
 pub fn check(
     asked: &Asked,
     said: &Explanation,
-    nesting: &Nesting,
+    nesting: Option<&Nesting>,
     slots: &[Slot],
 ) -> Result<(), Failure> {
     let rising = |pair: &[Slot]| pair[0].pixel_count < pair[1].pixel_count;
@@ -34,8 +34,11 @@ pub fn check(
         held,
         "the pixel is held by no cluster, or should not be held",
     )?;
-    let labelled = !said.discarded || said.label == 0;
-    ensure(labelled, "a discarded pixel has the label of a cluster")?;
+    let outermost = nesting.map_or(0, |nesting| nesting.outermost);
+    ensure(
+        said.label == outermost,
+        "the label does not name the outermost cluster",
+    )?;
     if let Some(smallest) = slots.first() {
         check_smallest(asked.sheet, said, smallest)?;
     }
@@ -62,13 +65,13 @@ fn check_smallest(sheet: &Sheet, said: &Explanation, smallest: &Slot) -> Result<
 fn check_shade(
     asked: &Asked,
     said: &Explanation,
-    nesting: &Nesting,
+    nesting: Option<&Nesting>,
     slots: &[Slot],
 ) -> Result<(), Failure> {
     let painter = slots
         .iter()
         .find(|slot| Some(slot.number) == said.painted_by);
-    let Some(painter) = painter else {
+    let (Some(painter), Some(nesting)) = (painter, nesting) else {
         let empty = said.shown == Rgba::default();
         ensure(empty, "the sheet shows a shade that no output gives")?;
         return ensure(
@@ -166,8 +169,9 @@ mod tests {
             sheet.m = 0;
             sheet.picture.fill(0);
         });
-        caught(1, "there is no cluster", &|sheet| sheet.labels[1] = 3);
-        caught(1, "not those of its label", &|sheet| sheet.labels[0] = 1);
+        caught(0, "does not name the outermost", &|sheet| {
+            sheet.labels[0] = 0
+        });
         caught(0, "held by no cluster", &slot(2, 1, 1));
         caught(1, "rectangle", &slot(2, 4, 1));
         caught(1, "not that of its pixels", &slot(2, 5, 2));
@@ -203,7 +207,7 @@ mod tests {
         discarded.table[2 * SLOT + 1] = 1;
         assert!(ask(&discarded)
             .unwrap_err()
-            .contains("has the label of a cluster"));
+            .contains("does not name the outermost"));
         discarded.labels[0] = 0;
         assert!(ask(&discarded).unwrap_err().contains("no output gives"));
         discarded.picture[3] = 0;

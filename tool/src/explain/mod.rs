@@ -49,6 +49,12 @@ pub struct Inner {
     pub hole: bool,
 }
 
+/// The pixels of a cluster, and those of them that are left to it.
+pub struct Patch {
+    pub pixels: Vec<usize>,
+    pub own: Vec<usize>,
+}
+
 /// A run that is asked about its pixels.
 #[derive(Clone, Copy)]
 pub struct Asked<'a> {
@@ -60,7 +66,7 @@ pub struct Asked<'a> {
 impl Asked<'_> {
     /// Explains the pixel in column `x` and row `y`, which lies on the chart.
     pub fn explain(&self, x: u32, y: u32) -> Result<Explanation, Failure> {
-        let pixel = self.sheet.width as usize * y as usize + x as usize;
+        let pixel = self.pixel(x, y);
         let label = *self
             .sheet
             .labels
@@ -68,8 +74,10 @@ impl Asked<'_> {
             .ok_or_else(|| off_the_sheet(x, y))?;
         let colour = Rgba::at(&self.chart.bytes, pixel).ok_or_else(|| off_the_sheet(x, y))?;
         let shown = Rgba::at(&self.sheet.picture, pixel).ok_or_else(|| off_the_sheet(x, y))?;
-        let nesting = Nesting::of(self.sheet, label)?;
-        let slots = nesting.holders(pixel);
+        let nesting = Nesting::around(self.sheet, pixel)?;
+        let slots = nesting
+            .as_ref()
+            .map_or(Vec::new(), |nesting| nesting.holders(pixel));
         // The last output is painted first, so of those that hold the pixel the first one shows.
         let holds = |number: &&u32| slots.iter().any(|slot| slot.number == **number);
         let explanation = Explanation {
@@ -82,17 +90,29 @@ impl Asked<'_> {
             smallest: slots.first().map(|slot| slot.number),
             painted_by: self.sheet.outputs().iter().find(holds).copied(),
             holders: self.clusters(&slots)?,
-            inside: self.inside(&nesting, slots.first())?,
+            inside: self.inside(nesting.as_ref(), slots.first())?,
         };
-        check::check(self, &explanation, &nesting, &slots)?;
+        check::check(self, &explanation, nesting.as_ref(), &slots)?;
         Ok(explanation)
     }
 
-    /// All pixels of the cluster `number`, and those of them that are left to it.
-    pub fn pixels(&self, number: u32, label: u32) -> Result<(Vec<usize>, Vec<usize>), Failure> {
-        let slot = self.sheet.slot(number)?;
-        let own = Nesting::of(self.sheet, label)?.own_pixels(&slot);
-        Ok((self.sheet.list(&slot)?, own))
+    /// The smallest cluster that holds the pixel; none where no cluster does.
+    pub fn patch(&self, x: u32, y: u32) -> Result<Option<Patch>, Failure> {
+        let pixel = self.pixel(x, y);
+        let Some(nesting) = Nesting::around(self.sheet, pixel)? else {
+            return Ok(None);
+        };
+        match nesting.holders(pixel).first() {
+            Some(slot) => Ok(Some(Patch {
+                pixels: self.sheet.list(slot)?,
+                own: nesting.own_pixels(slot),
+            })),
+            None => Ok(None),
+        }
+    }
+
+    fn pixel(&self, x: u32, y: u32) -> usize {
+        self.sheet.width as usize * y as usize + x as usize
     }
 
     fn clusters(&self, slots: &[Slot]) -> Result<Vec<Cluster>, Failure> {
@@ -101,8 +121,12 @@ impl Asked<'_> {
         slots.iter().map(cluster).collect()
     }
 
-    fn inside(&self, nesting: &Nesting, outer: Option<&Slot>) -> Result<Vec<Inner>, Failure> {
-        let Some(outer) = outer else {
+    fn inside(
+        &self,
+        nesting: Option<&Nesting>,
+        outer: Option<&Slot>,
+    ) -> Result<Vec<Inner>, Failure> {
+        let (Some(nesting), Some(outer)) = (nesting, outer) else {
             return Ok(Vec::new());
         };
         let holes = self.sheet.hole_children(outer)?;

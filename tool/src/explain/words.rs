@@ -164,10 +164,6 @@ fn division(cluster: &Cluster) -> String {
 /// A colour as hex digits and as numbers.
 fn in_words(colour: Rgba) -> String {
     let Rgba { r, g, b, a } = colour;
-    let empty = if colour == Rgba::default() {
-        " (empty)"
-    } else {
-        ""
-    };
-    format!("{colour}  red {r}, green {g}, blue {b}, alpha {a}{empty}")
+    let note = if a == 0 { " (transparent)" } else { "" };
+    format!("{colour}  red {r}, green {g}, blue {b}, alpha {a}{note}")
 }
