@@ -4,6 +4,7 @@
 //! do: it keeps naming a cluster that was later merged away.
 
 use std::collections::HashMap;
+use std::ops::Range;
 
 use crate::failure::Failure;
 use crate::sheet::{Sheet, Slot};
@@ -73,43 +74,16 @@ impl Nesting {
 
     /// The clusters directly inside one: in it, and in no other that is in it.
     pub fn inside(&self, outer: &Slot) -> Vec<Slot> {
-        let Some(within) = self.stretch_of(outer) else {
-            return Vec::new();
-        };
-        let mut inner: Vec<&(usize, Slot)> = self
-            .clusters
-            .iter()
-            .filter(|cluster| {
-                let part = stretch(cluster);
-                part.len() < within.len() && within.start <= part.start && part.end <= within.end
-            })
-            .collect();
-        // Of those that begin at one place, the largest comes first; what begins before its end lies in it.
-        inner.sort_by_key(|(start, slot)| (*start, u32::MAX - slot.pixel_count));
-        let mut end = 0;
-        inner.retain(|cluster| {
-            let part = stretch(cluster);
-            let direct = part.start >= end;
-            end = end.max(part.end);
-            direct
-        });
-        inner.into_iter().map(|cluster| cluster.1).collect()
+        let parts = self.parts_inside(self.stretch_of(outer));
+        parts.into_iter().map(|(_, slot)| *slot).collect()
     }
 
     /// The pixels that are left to a cluster: those that it holds and no cluster inside it does.
     pub fn own_pixels(&self, slot: &Slot) -> Vec<usize> {
-        let Some(within) = self.stretch_of(slot) else {
-            return Vec::new();
-        };
-        let inner: Vec<_> = self
-            .inside(slot)
-            .iter()
-            .filter_map(|inner| self.stretch_of(inner))
-            .collect();
+        let within = self.stretch_of(slot);
         let mut own = Vec::new();
         let mut from = within.start;
-        // The clusters inside come in the order of the list.
-        for part in inner {
+        for part in self.parts_inside(within.clone()).into_iter().map(stretch) {
             own.extend(&self.list[from..part.start]);
             from = part.end;
         }
@@ -117,17 +91,35 @@ impl Nesting {
         own
     }
 
-    fn stretch_of(&self, slot: &Slot) -> Option<std::ops::Range<usize>> {
-        let found = self
-            .clusters
-            .iter()
-            .find(|(_, cluster)| cluster.number == slot.number);
-        found.map(stretch)
+    /// The clusters directly inside a stretch, in the order of the list.
+    fn parts_inside(&self, within: Range<usize>) -> Vec<&(usize, Slot)> {
+        let inside = |cluster: &&(usize, Slot)| {
+            let part = stretch(cluster);
+            part.len() < within.len() && within.start <= part.start && part.end <= within.end
+        };
+        let mut parts: Vec<&(usize, Slot)> = self.clusters.iter().filter(inside).collect();
+        // Of those that begin at one place the largest comes first, and what begins before its end
+        // lies in it.
+        parts.sort_by_key(|(start, slot)| (*start, u32::MAX - slot.pixel_count));
+        let mut end = 0;
+        parts.retain(|cluster| {
+            let part = stretch(cluster);
+            let direct = part.start >= end;
+            end = end.max(part.end);
+            direct
+        });
+        parts
+    }
+
+    /// The places of a cluster; empty for one that is not here.
+    fn stretch_of(&self, slot: &Slot) -> Range<usize> {
+        let here = |cluster: &&(usize, Slot)| cluster.1.number == slot.number;
+        self.clusters.iter().find(here).map_or(0..0, stretch)
     }
 }
 
 /// The places of a cluster in the list.
-fn stretch((start, slot): &(usize, Slot)) -> std::ops::Range<usize> {
+fn stretch((start, slot): &(usize, Slot)) -> Range<usize> {
     *start..start + slot.pixel_count as usize
 }
 
