@@ -72,9 +72,7 @@ pub fn place_for(target: &Path) -> Result<PathBuf, Failure> {
     let wrong = |why: &str| Failure::File(format!("{} can't be written: {why}", target.display()));
     match fs::metadata(target) {
         Ok(there) if there.is_dir() => Err(wrong("it is a folder")),
-        Ok(there) if !there.is_file() => {
-            Err(wrong("it is no plain file; use - for standard output"))
-        }
+        Ok(there) if !there.is_file() => Err(wrong("it is no plain file")),
         Ok(_) => fs::canonicalize(target).map_err(|error| unwritable(target, &error)),
         Err(_) if target.file_name().is_none() => Err(wrong("it names no file")),
         Err(_) => Ok(target.to_path_buf()),
@@ -103,14 +101,10 @@ fn parts() -> MutexGuard<'static, Vec<PathBuf>> {
 
 /// Creates a file of a new name in the folder of `target`, with the usual permissions.
 fn create_beside(target: &Path) -> io::Result<(Listed, File)> {
-    let name = target
-        .file_name()
-        .unwrap_or_default()
-        .to_string_lossy()
-        .into_owned();
     let mut parts = parts();
     for number in 0..=u16::MAX {
-        let part = folder_of(target).join(format!(".{name}.{}-{number}.part", process::id()));
+        let name = format!(".sheet-{}-{number}.part", process::id());
+        let part = folder_of(target).join(name);
         match OpenOptions::new().write(true).create_new(true).open(&part) {
             Ok(file) => {
                 parts.push(part.clone());

@@ -173,7 +173,7 @@ class Words(Case):
         said = self.sheet(*words).stdout.decode()
         self.assertIn("on the sheet  #00000000  red 0, green 0, blue 0, alpha 0 (transparent)", said)
         self.assertIn("0, which every discarded pixel has; no cluster holds it", said)
-        self.assertIn("--discard leaves such pixels out. It belongs to no patch.", said)
+        self.assertIn("--discard leaves such pixels out.\n  It belongs to no patch.", said)
         self.assertIn("No cluster holds the pixel.\n  So nothing is painted here, and the sheet is empty", said)
         self.assertNotIn("from inner to outer", said)
         self.refused(*words, "--picture", "p.png", says=["no cluster holds this pixel", "Leave --picture out"])

@@ -103,6 +103,12 @@ class Files(Case):
         self.assertIn(b"standard output can't be written", process.stderr.read())
         self.assertEqual(sorted(self.files()), ["chart.png", "large.png"])
 
+    def test_a_name_as_long_as_names_can_be(self):
+        name = "s" * 251 + ".png"
+        self.sheet("make", "chart.png", name)
+        self.assertIn(name, self.files())
+        self.refused("make", "chart.png", "s" + name, says="can't be written")
+
     def test_the_sheet_is_the_same_each_time(self):
         self.sheet("make", "chart.png", "1.png")
         self.sheet("make", "chart.png", "2.png")

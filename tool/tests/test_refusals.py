@@ -110,6 +110,7 @@ class Usage(Case):
         self.misused("make", "chart.png", "s", says=".png or .pam")
         self.misused("make", "chart.png", "-", "--json", says="standard output")
         self.misused("make", "chart.png", "s.png", "--stored", "s.png", says="written twice")
+        self.misused("make", "chart.png", "s.png", "--stored", "-", says="a stored sheet goes to a file")
         self.misused("make", "chart.png", "s.png", "--stored-dir", "d", says="--out-dir")
         self.misused("explain", "chart.png", "0", says="<Y>")
         self.misused("explain", "chart.png", 0, 0, "--picture", "p.gif", says=".png or .pam")

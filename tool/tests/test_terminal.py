@@ -61,7 +61,7 @@ class Terminal(Case):
         shown = self.at_terminal("explain", "a.png", 60, 60)
         self.assertEqual(shown.replace("\r\n", "\n"), self.sheet("explain", "a.png", 60, 60).stdout.decode())
         self.assertNotIn("\x1b", shown)
-        self.assertLessEqual(max(map(len, shown.splitlines())), 118)
+        self.assertLessEqual(max(map(len, shown.splitlines())), 100)
 
     def test_a_sheet_is_not_thrown_at_a_terminal(self):
         shown = self.at_terminal("make", "a.png", "-", status=2)

@@ -154,6 +154,11 @@ impl Make {
     /// Refuses what can't be meant.
     fn ensure_sensible(&self, jobs: &[Job]) -> Result<(), Failure> {
         ensure_one_standard(jobs.iter().map(|job| &job.chart))?;
+        if self.stored.as_deref() == Some(Path::new("-")) {
+            return Err(usage(
+                "a stored sheet goes to a file; give --stored its name",
+            ));
+        }
         ensure_files_apart(jobs)?;
         jobs.iter()
             .try_for_each(|job| self.ensure_sheet_can_go(&job.sheet))

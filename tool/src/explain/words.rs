@@ -46,18 +46,18 @@ impl Explanation {
 
     fn why_this_patch(&self) -> String {
         let Some(smallest) = self.holders.first() else {
-            return "  The pixel has the key colour, and --discard leaves such pixels out. It belongs to no patch.\n".to_string();
+            return "  The pixel has the key colour, and --discard leaves such pixels out.\n  \
+                It belongs to no patch.\n"
+                .to_string();
         };
         let (left, right) = smallest.rectangle.columns();
         let (top, bottom) = smallest.rectangle.rows();
-        let inner = smallest.size - smallest.own_pixels;
-        let rest = match inner {
-            0 => "All of them are left to it: no smaller cluster lies inside.".to_string(),
-            _ => format!(
-                "{} of them {} left to it. The other {} in smaller clusters inside it, which have shades of their own.",
-                grouped(smallest.own_pixels),
-                if smallest.own_pixels == 1 { "is" } else { "are" },
-                if inner == 1 { "1 lies".to_string() } else { format!("{} lie", grouped(inner)) },
+        let rest = match smallest.size - smallest.own_pixels {
+            0 => "No smaller cluster lies inside, so all of that is left to it.".to_string(),
+            inner => format!(
+                "Left to it: {}. In smaller clusters inside it, which have shades of their own: {}.",
+                counted(smallest.own_pixels, "pixel"),
+                counted(inner, "pixel")
             ),
         };
         format!(
