@@ -16,7 +16,8 @@ def run_group(name):
     suite = unittest.defaultTestLoader.loadTestsFromName(f"test_{name}")
     said = io.StringIO()
     result = unittest.TextTestRunner(stream=said, verbosity=0).run(suite)
-    bad = {str(test).split(" [")[0] for test, _ in result.failures + result.errors}
+    # A part of a test counts as the test.
+    bad = {getattr(test, "test_case", test).id() for test, _ in result.failures + result.errors}
     passed = result.testsRun - len(bad) - len(result.skipped)
     skipped = f", {len(result.skipped)} skipped" if result.skipped else ""
     print(f"{name}: {passed} passed, {len(bad)} failed{skipped}", flush=True)

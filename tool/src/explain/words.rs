@@ -55,7 +55,7 @@ impl Explanation {
         let rest = match smallest.size - smallest.own_pixels {
             0 => "No smaller cluster lies inside, so all of that is left to it.".to_string(),
             inner => format!(
-                "Left to it: {}. In smaller clusters inside it, which have shades of their own: {}.",
+                "Left to it: {}.\n  In smaller clusters inside it, which have shades of their own: {}.",
                 counted(smallest.own_pixels, "pixel"),
                 counted(inner, "pixel")
             ),
@@ -90,23 +90,24 @@ impl Explanation {
         if self.inside.is_empty() {
             return "  Nothing: no smaller cluster.\n".to_string();
         }
-        let holes: Vec<String> = self
-            .inside
-            .iter()
-            .filter(|inner| inner.hole)
+        let holes = self.inside.iter().filter(|inner| inner.hole);
+        let holes: Vec<String> = holes
             .map(|inner| inner.cluster.number.to_string())
             .collect();
-        let note = match holes.as_slice() {
-            [] => "None of them is a hole".to_string(),
-            [one] => format!("Cluster {one} is a hole"),
-            [first @ .., last] => format!("Clusters {} and {last} are holes", first.join(", ")),
+        let note = match holes.len() {
+            0 => "None of them is a hole.".to_string(),
+            1..=MOST_NAMED => format!("Holes among them: {}.", holes.join(", ")),
+            many => format!("{} of them are holes.", grouped(many as u64)),
         };
         format!(
-            "{}  {note} (a hole touched at most hollow_neighbours clusters when it was put inside).\n",
+            "{}  {note} A hole touched at most hollow_neighbours clusters when it was put inside.\n",
             lines(self.inside.iter().map(|inner| &inner.cluster))
         )
     }
 }
+
+/// So many holes are named one by one.
+const MOST_NAMED: usize = 3;
 
 /// What the sheet shows where no output is painted.
 const NOTHING: &str =
