@@ -10,7 +10,7 @@ FOLDER = Path(__file__).parent / "golden"
 # Name: settings, and a pixel to explain.
 CASES = {
     "sectors": ({}, (26, 24)),
-    "rings": ({"good_min_area": 4}, (6, 6)),
+    "rings": ({"good_min_area": 4}, (4, 4)),
     "thin": ({"deepen_diff": 200, "hierarchical": 300}, (20, 10)),
     "keep": ({"key": "ff00ff", "action": "keep", "good_min_area": 2}, (3, 3)),
     "discard": ({"key": "ff00ff", "action": "discard", "good_min_area": 2}, (3, 3)),
