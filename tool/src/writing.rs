@@ -68,7 +68,7 @@ impl Part {
 }
 
 /// Where a file would go: through links, but never over a folder, a device or a pipe.
-pub fn place_for(target: &Path) -> Result<PathBuf, Failure> {
+fn place_for(target: &Path) -> Result<PathBuf, Failure> {
     let wrong = |why: &str| Failure::File(format!("{} can't be written: {why}", target.display()));
     match fs::metadata(target) {
         Ok(there) if there.is_dir() => Err(wrong("it is a folder")),

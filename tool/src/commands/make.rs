@@ -18,7 +18,7 @@ use crate::place::Place;
 use crate::run::{self, milliseconds, run};
 use crate::settings::Settings;
 use crate::text::counted;
-use crate::writing::{folder_of, place_for, Part};
+use crate::writing::{folder_of, Part};
 
 /// Clusters charts and paints their sheets
 #[derive(Args, Debug)]
@@ -180,9 +180,6 @@ impl Make {
 
     /// Makes one sheet.
     fn make(&self, job: &Job) -> Result<Made, Failure> {
-        for target in job.targets() {
-            place_for(target)?;
-        }
         let run = run(&job.chart, &self.settings)?;
         let start = Instant::now();
         let mut parts = Vec::new();
