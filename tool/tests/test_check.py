@@ -33,11 +33,13 @@ class Check(Case):
             width, height = rng.randint(1, 40), rng.randint(1, 40)
             self.image = speckled(width, height, [RED, WHITE, KEY, BLACK], index, run=30)
             self.chart("chart.png", self.image)
-            settings = options_of({"good_min_area": rng.choice([0, 4]), "key": "ff00ff", "action": rng.choice(["keep", "discard"])})
+            action = rng.choice(["keep", "discard"])
+            settings = options_of({"good_min_area": rng.choice([0, 4]), "key": "ff00ff", "action": action})
             self.store(*settings)
             said = self.sheet("check", "s.stored", "chart.png", *settings).stdout.decode()
             self.assertEqual(said, "s.stored: equal to a fresh run of chart.png\n")
-            self.assertEqual(self.json("check", "s.stored", "chart.png", "--json", *settings), [{"stored": "s.stored", "chart": "chart.png", "same": True, "differences": []}])
+            [found] = self.json("check", "s.stored", "chart.png", "--json", *settings)
+            self.assertEqual(found, {"stored": "s.stored", "chart": "chart.png", "same": True, "differences": []})
             self.assertEqual(self.sheet("check", "-q", "s.stored", "chart.png", *settings).stdout, b"")
 
     def test_every_kind_of_difference(self):
@@ -45,8 +47,10 @@ class Check(Case):
         numbers = list(struct.unpack(f"<{len(whole) // 2}H", whole))
         pixels, slots, outputs = 48 * 36, numbers[2], numbers[3]
         places = {
-            "labels": (4 + 2 * 50, "column 2, row 1", 50), "links": (4 + 2 * 50 + 1, "column 2, row 1", 50),
-            "first_pixels": (4 + 2 * pixels + 2 * 7, "cluster 7", 7), "pixel_counts": (4 + 2 * pixels + 2 * 7 + 1, "cluster 7", 7),
+            "labels": (4 + 2 * 50, "column 2, row 1", 50),
+            "links": (4 + 2 * 50 + 1, "column 2, row 1", 50),
+            "first_pixels": (4 + 2 * pixels + 2 * 7, "cluster 7", 7),
+            "pixel_counts": (4 + 2 * pixels + 2 * 7 + 1, "cluster 7", 7),
             "outputs": (4 + 2 * pixels + 2 * slots + 1, "place 1", 1),
         }
         for what, (place, words, first) in places.items():
@@ -55,10 +59,12 @@ class Check(Case):
             self.put("changed.stored", struct.pack(f"<{len(numbers)}H", *changed))
             said = self.sheet("check", "changed.stored", "chart.png", status=1).stdout.decode()
             self.assertIn("changed.stored: differs from a fresh run of chart.png\n", said)
-            self.assertIn(f"1 number differ, the first at {words}: stored {changed[place]:,}, fresh {numbers[place]:,}", said.replace("differs,", "differ,"))
+            both = f"stored {changed[place]:,}, fresh {numbers[place]:,}"
+            self.assertIn(f": 1 differs, the first at {words}: {both}\n", said)
             [found] = self.json("check", "changed.stored", "chart.png", "--json", status=1)
             self.assertFalse(found["same"])
-            self.assertEqual(found["differences"], [{"what": what, "count": 1, "first": first, "stored": changed[place], "fresh": numbers[place]}])
+            right = {"what": what, "count": 1, "first": first, "stored": changed[place], "fresh": numbers[place]}
+            self.assertEqual(found["differences"], [right])
         self.assertGreater(outputs, 1)
 
     def test_other_settings_and_other_charts_differ(self):

@@ -42,8 +42,10 @@ class Clusters(Case):
         for line, one in zip(lines[2:], found, strict=True):
             box, shade = one["rectangle"], one["shade"]
             right = [
-                str(one["number"]), f"{one['size']:,}", f"{box['left']}-{box['right'] - 1}", f"{box['top']}-{box['bottom'] - 1}",
-                f"{one['own_pixels']:,}", "#" + "".join(f"{shade[channel]:02X}" for channel in "rgba"), str(one["depth"]), str(one["holes"]),
+                str(one["number"]), f"{one['size']:,}",
+                f"{box['left']}-{box['right'] - 1}", f"{box['top']}-{box['bottom'] - 1}",
+                f"{one['own_pixels']:,}", "#" + "".join(f"{shade[channel]:02X}" for channel in "rgba"),
+                str(one["depth"]), str(one["holes"]),
             ]
             self.assertEqual(line.split(), right)
             self.assertEqual(len(line), len(lines[1]))

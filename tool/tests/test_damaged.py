@@ -6,6 +6,7 @@ from concurrent.futures import ThreadPoolExecutor
 from support import *
 
 CHART = speckled(6, 5, [RED, WHITE, KEY], 2)
+KINDS = [b"tRNS", b"PLTE", b"IDAT", b"fcTL", b"acTL", b"fdAT", b"IHDR", b"gAMA", b"iCCP", b"zTXt", b"pHYs"]
 
 
 class Damaged(Case):
@@ -44,7 +45,8 @@ class Damaged(Case):
 
     def test_changed_chunks_with_right_checksums(self):
         rng = random.Random(5)
-        kinds = [png(*CHART), encode_png(6, 5, [n % 2 for n in range(30)], 1, 3, True, chunk(b"PLTE", bytes(6)) + chunk(b"tRNS", b"\x01"))]
+        palette = chunk(b"PLTE", bytes(6)) + chunk(b"tRNS", b"\x01")
+        kinds = [png(*CHART), encode_png(6, 5, [n % 2 for n in range(30)], 1, 3, True, palette)]
         damaged = []
         for index in range(600):
             found = [[kind, bytearray(data)] for kind, data in chunks(rng.choice(kinds))]
@@ -58,7 +60,8 @@ class Damaged(Case):
                 elif what == 2:
                     one[1] += bytes(rng.randrange(9))
                 elif what == 3:
-                    found.insert(rng.randint(0, len(found)), [rng.choice([b"tRNS", b"PLTE", b"IDAT", b"fcTL", b"acTL", b"fdAT", b"IHDR", b"gAMA", b"iCCP", b"zTXt", b"pHYs"]), bytearray(rng.randbytes(rng.randrange(30)))])
+                    new = [rng.choice(KINDS), bytearray(rng.randbytes(rng.randrange(30)))]
+                    found.insert(rng.randint(0, len(found)), new)
                 elif len(found) > 1:
                     found.remove(one)
             damaged.append((index, SIGNATURE + b"".join(chunk(kind, bytes(data)) for kind, data in found)))
@@ -85,7 +88,7 @@ class Damaged(Case):
             (whole[:5], "it ends after its first bytes"),
             (whole[:40] + b"x" + whole[41:], "it is a broken PNG: "),
             (SIGNATURE + header(6, 5) + chunk(b"IEND", b""), "it is a broken PNG: "),
-            (SIGNATURE + header(6, 5) + chunk(b"IDAT", zlib.compress(b"\0" * 30)) + chunk(b"IEND", b""), "it is a broken PNG: "),
+            (SIGNATURE + header(6, 5) + chunk(b"IDAT", zlib.compress(bytes(30))) + chunk(b"IEND", b""), "it is a broken PNG: "),
             (SIGNATURE + header(6, 5, depth=3) + chunk(b"IEND", b""), "it is a broken PNG: "),
             (pam(*CHART)[:-1], "it is a broken PAM: it is cut off before its end"),
             (pam(*CHART) + b"P7", "more bytes follow after its last pixel"),
@@ -96,6 +99,11 @@ class Damaged(Case):
         packed = zlib.compress(bytes(200 << 20), 9)
         bomb = SIGNATURE + header(6, 5) + chunk(b"IDAT", packed) + chunk(b"IEND", b"")
         self.refused("make", "-", "s.png", says="unpacks to far more", input=bomb)
+
+    def test_enormous_notes(self):
+        notes = chunk(b"tEXt", b"Title\0" + b"x" * (2 << 20))
+        data = encode_png(*CHART, 8, 6, extra=notes)
+        self.refused("make", "-", "s.png", says=["more than 1 MiB of text", "save it without them"], input=data)
 
     def test_an_enormous_file(self):
         path = self.folder / "large.png"

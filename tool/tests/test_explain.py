@@ -75,7 +75,8 @@ class Explained(Case):
             discarded = settings.get("action") == "discard" and any(key) and colour == key
             inner = original.inside(holders[0]) if holders else set()
             right = {
-                "chart": "chart.png", "width": width, "height": height, "n": original.answer["n"], "m": original.answer["m"],
+                "chart": "chart.png", "width": width, "height": height,
+                "n": original.answer["n"], "m": original.answer["m"],
                 "x": x, "y": y, "colour": dict(zip("rgba", colour)), "shown": original.shown(pixel),
                 "label": original.answer["labels"][pixel], "discarded": discarded,
                 "smallest": holders[0] if holders else None, "painted_by": original.painter(pixel),
@@ -89,7 +90,9 @@ class Explained(Case):
                 one.pop("number")
             self.assertEqual(found, expected)
             if seen is not None:
-                seen.add((len(holders) > 2, bool(inner), bool(holes), discarded, said["painted_by"] == said["smallest"], said["painted_by"] is None))
+                painter = said["painted_by"]
+                same = painter == said["smallest"]
+                seen.add((len(holders) > 2, bool(inner), bool(holes), discarded, same, painter is None))
 
     def test_sector_charts(self):
         rng = random.Random(1)
@@ -111,8 +114,9 @@ class Explained(Case):
             width, height = rng.randint(1, 24), rng.randint(1, 24)
             settings = {
                 "is_same_color_a": rng.randint(0, 7), "is_same_color_b": rng.randint(-1, 3),
-                "hierarchical": rng.choice([0, 5, 40, 4294967295, 4294967295, 4294967295]), "good_min_area": rng.choice([0, 1, 4, 16]),
-                "good_max_area": rng.choice([20, 65536]), "hollow_neighbours": rng.randint(0, 3), "deepen_diff": rng.choice([-1, 0, 64, 200]),
+                "hierarchical": rng.choice([0, 5, 40, 4294967295, 4294967295, 4294967295]),
+                "good_min_area": rng.choice([0, 1, 4, 16]), "good_max_area": rng.choice([20, 65536]),
+                "hollow_neighbours": rng.randint(0, 3), "deepen_diff": rng.choice([-1, 0, 64, 200]),
             }
             chart = speckled(width, height, PALETTE, index, run=rng.randint(2, 40))
             self.compare(chart, settings, rng.sample(range(width * height), min(6, width * height)), seen)
@@ -129,9 +133,10 @@ class Explained(Case):
             }
             chart = speckled(width, height, [RED, WHITE, KEY, KEY, NEAR_KEY, GREEN], index, run=rng.randint(2, 9))
             self.compare(chart, settings, rng.sample(range(width * height), min(5, width * height)), seen)
-        self.assertTrue(any(discarded for _, _, _, discarded, _, _ in seen), "a discarded pixel")
-        self.assertTrue(any(empty and not discarded for _, _, _, discarded, _, empty in seen), "a pixel that is held and not painted")
-        self.assertTrue(any(not same and not empty for _, _, _, _, same, empty in seen), "a pixel whose smallest cluster is painted over")
+        ends = {kind[3:] for kind in seen}
+        self.assertTrue(any(discarded for discarded, _, _ in ends), "a discarded pixel")
+        self.assertTrue(any(empty and not discarded for discarded, _, empty in ends), "a pixel held and not painted")
+        self.assertTrue(any(not same and not empty for _, same, empty in ends), "a smallest cluster painted over")
 
     def test_the_largest_chart(self):
         chart = sector_chart(260, 250, 1)
@@ -224,8 +229,9 @@ class Words(Case):
             dimmed = bytes([(channel + 2 * 208) // 3 for channel in shade[:3]]) + shade[3:]
             self.assertEqual(middle, shade if pixel in held else dimmed, pixel)
             if pixel in held:
-                sides = {(-1, 0): (0, scale // 2), (1, 0): (scale - 1, scale // 2), (0, -1): (scale // 2, 0), (0, 1): (scale // 2, scale - 1)}
-                for (dx, dy), (sx, sy) in sides.items():
+                half, last = scale // 2, scale - 1
+                sides = [(-1, 0, 0, half), (1, 0, last, half), (0, -1, half, 0), (0, 1, half, last)]
+                for dx, dy, sx, sy in sides:
                     beyond = (y + dy) * 16 + x + dx if 0 <= x + dx < 16 and 0 <= y + dy < 16 else None
                     if beyond not in held:
                         self.assertIn(at(x * scale + sx, y * scale + sy), [b"\0\0\0\xff", b"\xff\xff\xff\xff"])

@@ -1,13 +1,17 @@
 """The script at the repository's root: what it sets up, and when. Stand-ins on the PATH write down how
 rt, cargo and Debian's programs are called."""
 
-import os
+import re
 import shutil
 import time
 
 from support import *
 
 ROOT = Path(__file__).resolve().parents[2]
+
+FILES = [
+    "tool/src/main.rs", "tool/Cargo.toml", "tool/build.rs", "tool/.cargo/config.toml", "crates.txt", "crates/rules/specs/Lib.antt",
+]
 
 STAND_INS = {
     "rt": 'echo "rt $*" >>"$LOG"; mkdir -p target/staticlib; touch target/staticlib/libcolor_clusters.a; echo proving',
@@ -27,7 +31,7 @@ class Script(Case):
         self.root = self.folder / "repository"
         for folder in ["tool/src", "tool/.cargo", "crates/rules/src", "crates/rules/specs"]:
             (self.root / folder).mkdir(parents=True)
-        for file in ["tool/src/main.rs", "tool/Cargo.toml", "tool/build.rs", "tool/.cargo/config.toml", "crates.txt", "crates/rules/specs/Lib.antt"]:
+        for file in FILES:
             (self.root / file).write_text("")
         shutil.copy(ROOT / "sheet", self.root / "sheet")
         programs = self.folder / "programs"
@@ -36,14 +40,16 @@ class Script(Case):
             (programs / name).write_text(f"#!/bin/sh\n{text}\n")
             (programs / name).chmod(0o755)
         self.log, self.installed = self.folder / "log", self.folder / "installed"
-        self.installed.write_text("\n".join(word for word in (ROOT / "sheet").read_text().split() if "librust" in word).replace("packages='", "").replace("'", "") + "\n")
-        bare = {name: value for name, value in os.environ.items() if name not in ("COLOR_CLUSTERS_LIB", "CARGO_TARGET_DIR")}
-        self.environment = {**bare, "PATH": f"{programs}:/usr/bin:/bin", "LOG": str(self.log), "INSTALLED": str(self.installed)}
+        packages = re.findall(r"librust-[a-z-]+-dev", (ROOT / "sheet").read_text())
+        self.installed.write_text("\n".join(packages) + "\n")
+        self.environment = {"PATH": f"{programs}:/usr/bin:/bin", "LOG": str(self.log), "INSTALLED": str(self.installed)}
 
     def script(self, *words, program=None, status=7, **variables):
         """Runs the script from another folder, and answers what it called, said and printed."""
         self.log.write_text("")
-        result = subprocess.run([program or self.root / "sheet", *words], cwd=self.folder, env={**self.environment, **variables}, capture_output=True, timeout=60)
+        environment = {**self.environment, **variables}
+        command = [program or self.root / "sheet", *words]
+        result = subprocess.run(command, cwd=self.folder, env=environment, capture_output=True, timeout=60)
         self.assertEqual(result.returncode, status, result.stderr)
         return self.log.read_text().splitlines(), result.stderr.decode(), result.stdout.decode()
 

@@ -13,7 +13,7 @@ use crate::place::{unreadable, Place};
 use crate::run::{run, store};
 use crate::settings::Settings;
 use crate::stored::{Difference, Stored};
-use crate::text::{counted, grouped};
+use crate::text::grouped;
 
 /// No stored sheet has more bytes than this.
 const MAX_BYTES: u64 = 1 << 20;
@@ -156,13 +156,12 @@ impl Compared {
             number(difference.stored),
             number(difference.fresh)
         );
-        let at = |things: &str, place: String| {
-            format!(
-                "  {}: {} differ, the first at {place}: {both}\n",
-                things,
-                counted(*count as u64, "number")
-            )
+        let differ = match count {
+            1 => "1 differs".to_string(),
+            many => format!("{} differ", grouped(*many as u64)),
         };
+        let at =
+            |things, place: String| format!("  {things}: {differ}, the first at {place}: {both}\n");
         let pixel = format!("column {}, row {}", first % self.width, first / self.width);
         match difference.what {
             "labels" => at("labels of pixels", pixel),

@@ -123,7 +123,13 @@ fn cut_off() -> Failure {
 }
 
 fn wrong(error: DecodingError) -> Failure {
-    broken("PNG", &error.to_string())
+    match error {
+        DecodingError::LimitsExceeded => Failure::File(
+            "it is a PNG with more than 1 MiB of text, profile or other notes in one piece; save it without them"
+                .to_string(),
+        ),
+        error => broken("PNG", &error.to_string()),
+    }
 }
 
 #[cfg(test)]
