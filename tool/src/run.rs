@@ -22,28 +22,25 @@ pub struct Run {
 
 /// Reads a chart and has the library cluster and paint it.
 pub fn run(place: &Place, settings: &Settings) -> Result<Run, Failure> {
-    let refuse = |width, height| {
-        move |number| {
-            let is_same_color_a = settings.is_same_color_a;
-            refused(
-                number,
-                About {
-                    is_same_color_a,
-                    width,
-                    height,
-                    ..About::default()
-                },
-            )
-        }
+    let refusal = |number, width, height| {
+        let is_same_color_a = settings.is_same_color_a;
+        let about = About {
+            is_same_color_a,
+            width,
+            height,
+            ..About::default()
+        };
+        refused(number, about)
     };
     let start = Instant::now();
     let chart = image::read(place, &|width, height| {
-        library::accepts(settings, width, height).map_err(refuse(width, height))
+        let accepted = library::accepts(settings, width, height);
+        accepted.map_err(|number| refusal(number, width, height))
     })?;
     let read = milliseconds(start);
     let start = Instant::now();
-    let sheet =
-        library::run_and_paint(settings, &chart).map_err(refuse(chart.width, chart.height))?;
+    let sheet = library::run_and_paint(settings, &chart);
+    let sheet = sheet.map_err(|number| refusal(number, chart.width, chart.height))?;
     Ok(Run {
         chart,
         sheet,

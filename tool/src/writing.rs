@@ -125,6 +125,16 @@ pub fn folder_of(target: &Path) -> &Path {
     }
 }
 
+/// A path by which two names of one file are seen to be one.
+pub fn identity(path: &Path) -> PathBuf {
+    let folder = folder_of(path);
+    let of_a_new_file = || {
+        let folder = fs::canonicalize(folder).unwrap_or_else(|_| folder.to_path_buf());
+        folder.join(path.file_name().unwrap_or_default())
+    };
+    fs::canonicalize(path).unwrap_or_else(|_| of_a_new_file())
+}
+
 fn unwritable(target: &Path, error: &io::Error) -> Failure {
     let why = match error.kind() {
         ErrorKind::NotFound => format!("there is no folder {}", folder_of(target).display()),

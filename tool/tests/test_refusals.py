@@ -127,6 +127,7 @@ class Usage(Case):
         (self.folder / "link.png").symlink_to("chart.png")
         self.misused("make", "chart.png", "link.png", says="would be written over")
         self.misused("make", "chart.png", "--out-dir", ".", says="would be written over")
+        self.misused("explain", "chart.png", 0, 0, "--picture", "./chart.png", says="would be written over")
 
     def test_help_is_there_for_each(self):
         everything = self.sheet("--help").stdout.decode()

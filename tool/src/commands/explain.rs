@@ -19,7 +19,7 @@ use crate::run::{run, Run};
 use crate::settings::Settings;
 use crate::sheet::Sheet;
 use crate::text::{counted, grouped};
-use crate::writing::Part;
+use crate::writing::{identity, Part};
 
 /// Says why a pixel is in its patch and where its shade comes from
 #[derive(Args, Debug)]
@@ -82,6 +82,7 @@ impl Explain {
 
     fn explain(&self) -> Result<(), Failure> {
         let format = self.picture.as_deref().map(Format::of).transpose()?;
+        self.ensure_not_over_the_chart()?;
         let run = run(&self.chart, &self.settings)?;
         self.ensure_on_the_chart(&run.sheet)?;
         let asked = Asked {
@@ -96,6 +97,18 @@ impl Explain {
         };
         self.print(&run, &explanation)?;
         picture.map_or(Ok(()), Part::put)
+    }
+
+    fn ensure_not_over_the_chart(&self) -> Result<(), Failure> {
+        match (&self.chart, &self.picture) {
+            (Place::File(chart), Some(picture)) if identity(chart) == identity(picture) => {
+                let chart = chart.display();
+                Err(Failure::Usage(format!(
+                    "{chart} is the chart and would be written over"
+                )))
+            }
+            _ => Ok(()),
+        }
     }
 
     /// Rows are the library's to check; columns are not.

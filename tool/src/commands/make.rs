@@ -18,7 +18,7 @@ use crate::place::Place;
 use crate::run::{self, milliseconds, run};
 use crate::settings::Settings;
 use crate::text::counted;
-use crate::writing::{folder_of, Part};
+use crate::writing::{folder_of, identity, Part};
 
 /// Clusters charts and paints their sheets
 #[derive(Args, Debug)]
@@ -273,16 +273,6 @@ fn ensure_files_apart(jobs: &[Job]) -> Result<(), Failure> {
             )))
         }
     }
-}
-
-/// A path by which two names of one file are seen to be one.
-fn identity(path: &Path) -> PathBuf {
-    let folder = folder_of(path);
-    let of_a_new_file = || {
-        let folder = fs::canonicalize(folder).unwrap_or_else(|_| folder.to_path_buf());
-        folder.join(path.file_name().unwrap_or_default())
-    };
-    fs::canonicalize(path).unwrap_or_else(|_| of_a_new_file())
 }
 
 fn usage(text: &str) -> Failure {
