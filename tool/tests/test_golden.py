@@ -43,7 +43,8 @@ class Golden(Case):
         kept = (FOLDER / name).read_bytes()
         if name.endswith(".png"):
             made, kept = decode_png(made), decode_png(kept)
-        self.assertEqual(made, kept, name)
+        # Not assertEqual, which takes minutes to show how large pictures differ.
+        self.assertTrue(made == kept, f"{name} is not what it was")
 
     def each(self):
         for name, (settings, pixel) in CASES.items():
