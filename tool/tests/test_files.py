@@ -53,12 +53,26 @@ class Files(Case):
     def test_all_files_of_a_chart_or_none(self):
         self.refused("make", "chart.png", "absent/s.png", "--stored", "s.stored", says="there is no folder absent")
 
+    def as_anybody(self, *words, says):
+        """Wants a failure for a user with no rights here; the superuser becomes one."""
+        self.folder.chmod(0o755)
+        user = {"user": 65534, "group": 65534, "extra_groups": []} if os.geteuid() == 0 else {}
+        try:
+            subprocess.run([SHEET, "--version"], capture_output=True, check=True, **user)
+        except (PermissionError, subprocess.CalledProcessError):
+            self.skipTest("another user can't run the program here")
+        self.refused(*words, says=says, **user)
+
     def test_a_folder_that_may_not_be_written(self):
-        if os.geteuid() == 0:
-            self.skipTest("the superuser may write everywhere")
-        closed = self.folder / "closed"
-        closed.mkdir(mode=0o500)
-        self.refused("make", "chart.png", "closed/s.png", says="you may not write in closed")
+        (self.folder / "closed").mkdir(mode=0o555)
+        self.as_anybody("make", "chart.png", "closed/s.png", says="you may not write in closed")
+
+    def test_a_chart_that_may_not_be_read(self):
+        (self.folder / "chart.png").rename(self.folder / "secret.png")
+        (self.folder / "secret.png").chmod(0)
+        self.addCleanup((self.folder / "secret.png").chmod, 0o600)
+        self.files = lambda: sorted(os.listdir(self.folder))
+        self.as_anybody("clusters", "secret.png", says="secret.png: it may not be read by you")
 
     def test_a_disk_that_is_full(self):
         # A limit on the size of files, with its signal ignored, fails as a full disk does.
