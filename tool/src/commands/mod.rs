@@ -1,0 +1,40 @@
+//! The commands of the program.
+
+pub mod check;
+pub mod clusters;
+pub mod explain;
+pub mod make;
+
+use serde::Serialize;
+
+use crate::failure::Failure;
+use crate::place::Place;
+
+/// What the JSON says of a chart that failed.
+#[derive(Serialize)]
+struct Failed {
+    chart: String,
+    /// The number of the library's refusal, if it was one.
+    refusal: Option<u32>,
+    error: String,
+}
+
+impl Failed {
+    fn of(chart: &Place, failure: &Failure) -> Self {
+        Self {
+            chart: chart.chart_name(),
+            refusal: failure.number(),
+            error: failure.to_string(),
+        }
+    }
+}
+
+/// Standard input can be read only once.
+fn ensure_one_standard<'a>(charts: impl Iterator<Item = &'a Place>) -> Result<(), Failure> {
+    match charts.filter(|chart| **chart == Place::Standard).count() {
+        0 | 1 => Ok(()),
+        _ => Err(Failure::Usage(
+            "standard input (-) can be read only once".to_string(),
+        )),
+    }
+}
