@@ -5,18 +5,19 @@ use mathlib.Core.Bool.{Bool, true, false, _&&_, _||_}
 use mathlib.Core.List.{List, [], _∷_, map}
 use mathlib.Core.Option.{Option, some}
 use mathlib.Core.Option.{none as off}
-use Prim.Native.Nat.{ℕ, suc, _+_, _≤_, _<_}
+use Prim.Native.Nat.{ℕ, suc, _+_, _-_, _*_, _%_, _≤_, _<_}
 use native.Mathlib.Decide.{ℕ-discrete}
 use native.Mathlib.Omega.{arith}
-use lib.Dec.{T, eqb, ltb, eqb-refl}
+use lib.Dec.{T, eqb, leb, ltb, eqb-refl}
 use lib.ListN.{length, getD, set, length-set}
 use lib.Seq.{getD-set-same, getD-set-other}
 use borrow.Author.Tests.{ltb-true, ltb-false, eqb-true, eqb-false, ne-eqb}
 use Rattle.rules.specs.Base.{if_then_else_, each, member, insert, least}
 use Rattle.rules.specs.Color.{colorDiff, average}
+use Rattle.rules.specs.Grid.{up, down, left, right, sides}
 use Rattle.rules.specs.State.{State, cluster, label}
 use Rattle.rules.specs.Stage2.{labelsAt, labelsAround, neighbours, rank}
-use Rattle.rules.proofs.Facts.{is-true}
+use Rattle.rules.proofs.Facts.{is-true, eqb-yes}
 use Rattle.rules.proofs.Visits.{All}
 use Rattle.rules.proofs.Outputs.{In}
 use Rattle.rules.proofs.Listed.{insert-new, insert-old}
@@ -26,7 +27,7 @@ use Rattle.rules.proofs.Connected.{AllSome}
 use Rattle.rules.proofs.Neighbours.{Rising, least-is, least-unique, all-in, insert-rising}
 use Rattle.runner.specs.declared.cluster.Nearest.{Nearest}
 use Rattle.runner.specs.Slots.{sumAt}
-use Rattle.runner.specs.Neighbours.{placeLabel, diffAt, nearestOf, closer, added, Scan, noted, listAt}
+use Rattle.runner.specs.Neighbours.{placeLabel, diffAt, nearestOf, closer, added, Scan, noted, notedFour, listAt}
 
 -- ---- a number put into a rising list
 
@@ -152,6 +153,10 @@ neighbours-nearest w h s k labels links table a b c d e =
     rw (a, b, c) (nearest-same (diffAt table k) (rank s k) (labelsAround w h (s .labels) k (cluster s k .pixels) [])
     (in-all (λ l. diffAt table k l ≡ rank s k l) (labelsAround w h (s .labels) k (cluster s k .pixels) []) (λ l i. ap₂ (λ x y. colorDiff (average x) (average y)) d (e l (rw c i)))))
 
+or-true : (b : Bool) → b || true ≡ true
+or-true true = refl
+or-true false = refl
+
 -- ---- a label noted
 
 -- the labels found so far, with l
@@ -217,6 +222,19 @@ module _ (key : ℕ → ℕ) (own visit : ℕ) where
       pick false e true c d = H
       pick false e false true d = rw (insert-there l found (H .rising) (subst T (sym (sym (H .marked l) ∙ d)) tt)) H
       pick false e false false d = fresh (fits (eqb-false l 0 e)) (sym (H .marked l) ∙ d)
+
+  -- a place of the cluster's own label, or off the image, adds nothing
+  noted-own : (labels : List ℕ) (b : Bool) (j : ℕ) → getD labels j 0 ≡ own → (s : Scan) → noted key own visit (placeLabel labels (if b then some j else off)) s ≡ s
+  unfolding noted
+  noted-own labels true j e s = rw (e, eqb-yes own own refl, or-true (eqb own 0))
+  noted-own labels false j e s = refl
+
+  -- nor do the four places around a pixel
+  pub inside-none : (labels : List ℕ) (w h p : ℕ) → getD labels (p - w) 0 ≡ own → getD labels (p - 1) 0 ≡ own → getD labels (p + 1) 0 ≡ own → getD labels (p + w) 0 ≡ own → (s : Scan)
+      → notedFour key own visit (map (placeLabel labels) (sides w h p)) s ≡ s
+  unfolding notedFour sides up down left right
+  inside-none labels w h p a b c d s =
+      rw (noted-own labels (leb w p) (p - w) a s, noted-own labels (ltb (p + w) (w * h)) (p + w) d s, noted-own labels (ltb 0 (p % w)) (p - 1) b s, noted-own labels (ltb (p % w + 1) w) (p + 1) c s)
 
   pub each-length : (ls : List ℕ) (s : Scan) → length (each ls (noted key own visit) s .marks) ≡ length (s .marks)
   each-length [] s = refl

@@ -4,6 +4,7 @@ use color::ColorOrNone;
 use color::ColorSum;
 ghost use mathlib.Core.Path.{_≡_};
 ghost use mathlib.Core.Logic.{_≢_};
+ghost use mathlib.Core.Bool.{true};
 ghost use mathlib.Core.List.{map};
 ghost use Prim.Native.Nat.{ℕ, _+_, _*_, _<_, _≤_};
 ghost use lib.ListN.{length, getD};
@@ -12,7 +13,7 @@ ghost use Rattle.rules.specs.Grid.{sides};
 ghost use Rattle.rules.specs.Grid as grid;
 ghost use Rattle.color.specs.Colors.{colorOf};
 ghost use Rattle.runner.specs.Slots.{sumAt};
-ghost use Rattle.runner.specs.Neighbours.{placeLabel, diffFrom, added, noted, notedFour, Averaged, Notable, Scannable, Found};
+ghost use Rattle.runner.specs.Neighbours.{placeLabel, diffFrom, added, Scan, noted, notedFour, Averaged, Notable, Scannable, Found};
 
 // The label of the pixel above p, 0 where there is none; so down, left and right.
 fn up(labels: &[u32], w: u32, p: u32) -> u32
@@ -164,6 +165,48 @@ fn note_four(
     note(table, marks, visit, own, mine, four[3], c)
 }
 
+// Whether the pixels before and after p, and those a row above and below it, are all of the cluster: then p has no neighbour to note, wherever
+// the image ends. It saves the division by w for most pixels.
+fn is_inside(labels: &[u32], w: u32, own: u32, p: u32) -> bool
+    requires { ⌜ (0 < w) × (p < length (now labels)) ⌝ }
+    ensures { λ r. ⌜ (r ≡ true → (h : ℕ) (key : ℕ → ℕ) (visit : ℕ) (s : Scan) → notedFour key own visit (map (placeLabel (now (labels .entry))) (sides w h p)) s ≡ s) ⌝ }
+{
+    let i = p as usize;
+    let row = w as usize;
+    if (i < row) | (labels.len() <= i + row) {
+        return false;
+    }
+    (labels[i - row] == own)
+        & (labels[i - 1] == own)
+        & (labels[i + 1] == own)
+        & (labels[i + row] == own)
+}
+
+// The labels around pixel p, in turn.
+fn look(
+    labels: &[u32],
+    table: &[u32],
+    marks: &mut [u32],
+    w: u32,
+    h: u32,
+    visit: u32,
+    own: u32,
+    mine: Color,
+    p: u32,
+    found: Nearest,
+) -> Nearest
+    requires { ⌜ (0 < w) × (p < w * h) × (w * h ≤ length (now labels)) × (w * h ≤ 2000000) ⌝ }
+    requires { ⌜ ((i : ℕ) → i < 4 → getD (map (placeLabel (now labels)) (sides w h p)) i 0 ≢ 0 → Notable (now table) (length (now marks)) (getD (map (placeLabel (now labels)) (sides w h p)) i 0)) ⌝ }
+    requires { ⌜ found .count + 4 ≤ 4294967295 ⌝ }
+    ensures { λ r. ⌜ record { marks = now (marks .exit); nearest = r } ≡ notedFour (diffFrom (now (table .entry)) (colorOf mine)) own visit (map (placeLabel (now (labels .entry))) (sides w h p)) (record { marks = now (marks .entry); nearest = found }) ⌝ }
+{
+    if is_inside(labels, w, own, p) {
+        return found;
+    }
+    let four = four_labels(labels, w, h, p);
+    note_four(table, marks, visit, own, mine, four, found)
+}
+
 // The neighbours of cluster k, each marked with the number of the visit.
 pub(crate) fn neighbours(
     labels: &[u32],
@@ -189,15 +232,7 @@ pub(crate) fn neighbours(
     };
     while 0 < left {
         let p = at - 1;
-        found = note_four(
-            table,
-            marks,
-            visit,
-            k,
-            mine,
-            four_labels(labels, w, h, p),
-            found,
-        );
+        found = look(labels, table, marks, w, h, visit, k, mine, p, found);
         at = links[p as usize];
         left = left - 1;
     }

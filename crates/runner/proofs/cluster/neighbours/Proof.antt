@@ -118,44 +118,39 @@ here c = step _ _ _ _ (c .loop-test .taken) (c .before .loop .inv .readable)
 sub-p : tie.Need-sub-p Inv-loop μ-loop
 sub-p c = here c .some
 
-four-labels-requires : tie.Need-four-labels-requires Inv-loop μ-loop
-four-labels-requires c κs =
+look-requires : tie.Need-look-requires Inv-loop μ-loop
+look-requires c κs =
     let l = c .before in
     let S = l .before .before .before .before .before .before .before .before .before .pre in
-    (S .width, omega (arith, here l .some, here l .within), S .labelled, S .small)
-
-note-four-requires : tie.Need-note-four-requires Inv-loop μ-loop
-note-four-requires c κs =
-    let l = c .before .before in
-    asks _ _ _ _ _ _ _ _ (l .before .before .before .before .before .before .before .before .before .pre) _ _ _ _ (l .loop-test .taken) (c .four-labels .ensures) (l .before .loop .inv)
+    let a = asks _ _ _ _ _ _ _ _ S _ _ _ _ (l .loop-test .taken) refl (l .before .loop .inv) in
+    ((S .width, omega (arith, here l .some, here l .within), S .labelled, S .small), a)
 
 cast-at : tie.Need-cast-at Inv-loop μ-loop
 cast-at c =
-    let l = c .before .before .before .before .before in
+    let l = c .before .before .before .before in
     omega (arith, here l .within, l .before .before .before .before .before .before .before .before .before .pre .small)
 
 mul-at-2 : tie.Need-mul-at-2 Inv-loop μ-loop
 mul-at-2 c =
-    let l = c .before .before .before .before .before in
+    let l = c .before .before .before .before in
     omega (arith, here l .within, l .before .before .before .before .before .before .before .before .before .pre .small)
 
 shared-slice-read-at-2 : tie.Need-shared-slice-read-at-2 Inv-loop μ-loop
 shared-slice-read-at-2 c =
-    let l = c .before .before .before .before .before .before in
+    let l = c .before .before .before .before .before in
     omega (arith, here l .some, here l .within, l .before .before .before .before .before .before .before .before .before .pre .linked)
 
 sub-left : tie.Need-sub-left Inv-loop μ-loop
-sub-left c = c .before .before .before .before .before .before .loop-test .taken
+sub-left c = c .before .before .before .before .before .loop-test .taken
 
 loop-less : tie.Need-loop-less Inv-loop μ-loop
-loop-less c = omega (arith, c .before .before .before .before .before .before .loop-test .taken)
+loop-less c = omega (arith, c .before .before .before .before .before .loop-test .taken)
 
 loop-again : tie.Need-loop-again Inv-loop μ-loop
 loop-again c =
     let n = c .before .before .before in
-    let l = n .before .before .before in
-    turn _ _ _ _ _ _ _ _ (l .before .before .before .before .before .before .before .before .before .pre) _ _ _ _ _ _ (l .loop-test .taken) (n .before .four-labels .ensures)
-    (l .before .before .before .before .color .ensures) (n .note-four .ensures) (l .before .loop .inv)
+    let l = n .before .before in
+    turn _ _ _ _ _ _ _ _ (l .before .before .before .before .before .before .before .before .before .pre) _ _ _ _ _ _ (l .loop-test .taken) refl (l .before .before .before .before .color .ensures) (n .look .ensures) (l .before .loop .inv)
 
 same-length : tie.Need-same-length Inv-loop μ-loop
 same-length c = c .before .loop .inv .kept
@@ -179,8 +174,7 @@ neighbours-spec =
     shared-slice-read-left
     loop-holds
     sub-p
-    four-labels-requires
-    note-four-requires
+    look-requires
     cast-at
     mul-at-2
     shared-slice-read-at-2
