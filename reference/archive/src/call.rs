@@ -1,5 +1,7 @@
 //! The calls of the library, without their pointers.
 
+use std::sync::atomic::{AtomicUsize, Ordering};
+
 use judge::case::{Case, KeyingAction, Settings};
 use judge::text;
 
@@ -50,14 +52,32 @@ impl<'a> Call<'a> {
     }
 }
 
+/// How many numbers more than it has each buffer is said to have: 0, but where a fault is wanted.
+static TOO_MANY: AtomicUsize = AtomicUsize::new(0);
+
+/// From now on the library is told that each buffer of numbers is one longer than it is. This shows
+/// that a memory checker sees what lies beyond.
+pub fn lend_short() {
+    TOO_MANY.store(1, Ordering::Relaxed);
+}
+
+/// The length of a buffer that the library is told.
+fn told<T>(buffer: &[T]) -> usize {
+    if size_of::<T>() == size_of::<u32>() {
+        buffer.len() + TOO_MANY.load(Ordering::Relaxed)
+    } else {
+        buffer.len()
+    }
+}
+
 /// Calls a function of the library with numbers, slices and numbers again. A slice becomes a pointer
 /// and a length.
 macro_rules! pass {
     ($function:ident($($number:expr),*; $($slice:expr),*; $($last:expr),*)) => {
-        // SAFETY: each pointer comes with the length of its own slice. The slices are borrowed at
-        // the same time and mutably, so no two overlap; the image is borrowed beside them. The
-        // call keeps none of them.
-        unsafe { $function($($number,)* $($slice.as_mut_ptr(), $slice.len(),)* $($last),*) }
+        // SAFETY: each pointer comes with the length of its own slice, where no fault is wanted.
+        // The slices are borrowed at the same time and mutably, so no two overlap; the image is
+        // borrowed beside them. The call keeps none of them.
+        unsafe { $function($($number,)* $($slice.as_mut_ptr(), told(&$slice),)* $($last),*) }
     };
 }
 

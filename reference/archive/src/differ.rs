@@ -9,6 +9,7 @@ pub mod workers;
 mod damage;
 mod held;
 mod lending;
+mod marks;
 
 use std::fmt;
 
@@ -20,6 +21,8 @@ use crate::buffers::{Buffers, Lengths};
 use crate::call::{Answer, Call};
 use crate::sheet::Sheet;
 use held::{Memory, What};
+
+pub use lending::Room;
 
 /// Where the library did something else than it must.
 #[derive(Debug)]

@@ -6,5 +6,6 @@ pub mod call;
 pub mod differ;
 mod ffi;
 pub mod images;
+mod memcheck;
 pub mod refusals;
 pub mod sheet;

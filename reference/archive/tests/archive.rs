@@ -2,7 +2,7 @@
 
 use archive::buffers::Buffers;
 use archive::call::{self, Call};
-use archive::differ::{accepted, damaged, refused};
+use archive::differ::{accepted, damaged, refused, Room};
 use archive::sheet::Sheet;
 use judge::case::{Case, Settings};
 use judge::cases::worked;
@@ -98,7 +98,7 @@ fn rows_and_sizes_are_checked() {
 #[test]
 fn damaged_sheets_are_refused_or_painted_by_the_rules() {
     for index in 0..500 {
-        if let Err(difference) = damaged::compare(1, index) {
+        if let Err(difference) = damaged::compare(1, index, Room::Ample) {
             panic!("{index}: {difference}");
         }
     }

@@ -2,11 +2,12 @@
 
 use std::process::ExitCode;
 
-use archive::differ::{damaged, large, refused, small, workers, Difference};
+use archive::call;
+use archive::differ::{damaged, large, refused, small, workers, Difference, Room};
 use judge::options::Options;
 
 const HELP: &str = "\
-differ [--small N] [--large N] [--refused N] [--damaged N] [--seed S]
+differ [--small N] [--large N] [--refused N] [--damaged N] [--seed S] [--exact] [--short]
 
 Compares the proved library with the original on N small images (1000000) and N images of 10,000 to
 65,000 pixels (1000): the run, the run with painting, and painting, rows and storing from what it
@@ -17,6 +18,11 @@ answer, every number of every buffer and every byte, also what must stay as it w
 A case depends on its kind, its index and the seed S (1), a small one also on N: half of the small
 images are the enumeration of tiny ones from its beginning, the others are random.
 
+Each buffer is a block of memory of its own, and most are longer than asked; with --exact those of
+accepted runs are just as long as asked. Under valgrind every access beyond a block is an error, and
+every use of what a call has no reason to read. --short tells the library that each buffer of
+numbers is one longer than it is, which valgrind must report.
+
 Progress goes to standard error. At the first difference the run is printed in the judge's form of a
 case, with the lengths lent, the damage done and what differs.
 Exit status: 0 no difference, 1 a difference was found, 2 bad usage.
@@ -25,13 +31,15 @@ Exit status: 0 no difference, 1 a difference was found, 2 bad usage.
 /// How many comparisons a worker takes at once.
 const MANY: u64 = 500;
 
-/// How many comparisons of each sort are made.
+/// What is asked for: how many comparisons of each sort, and how.
 #[derive(Clone, Copy)]
-struct Counts {
+struct Asked {
     small: u64,
     large: u64,
     refused: u64,
     damaged: u64,
+    seed: u64,
+    room: Room,
 }
 
 fn main() -> ExitCode {
@@ -41,7 +49,7 @@ fn main() -> ExitCode {
         return ExitCode::SUCCESS;
     }
     match parse(&args) {
-        Ok((counts, seed)) => report(counts, seed, compare(counts, seed)),
+        Ok(asked) => report(asked, compare(asked)),
         Err(message) => {
             eprintln!("differ: {message}");
             ExitCode::from(2)
@@ -49,16 +57,24 @@ fn main() -> ExitCode {
     }
 }
 
-fn parse(args: &[String]) -> Result<(Counts, u64), String> {
+fn parse(args: &[String]) -> Result<Asked, String> {
     let names = ["--small", "--large", "--refused", "--damaged", "--seed"];
-    let options = Options::parse(args, &names, &[])?.at_most(0)?;
-    let counts = Counts {
+    let options = Options::parse(args, &names, &["--exact", "--short"])?.at_most(0)?;
+    if options.flag("--short") {
+        call::lend_short();
+    }
+    Ok(Asked {
         small: options.number("--small", 1_000_000)?,
         large: options.number("--large", 1_000)?,
         refused: options.number("--refused", 100_000)?,
         damaged: options.number("--damaged", 100_000)?,
-    };
-    Ok((counts, options.number("--seed", 1)?))
+        seed: options.number("--seed", 1)?,
+        room: if options.flag("--exact") {
+            Room::Exact
+        } else {
+            Room::Ample
+        },
+    })
 }
 
 /// A difference, with where it was found.
@@ -68,19 +84,20 @@ struct Found {
     difference: Difference,
 }
 
-fn compare(counts: Counts, seed: u64) -> Result<(), Found> {
+fn compare(asked: Asked) -> Result<(), Found> {
+    let Asked { seed, room, .. } = asked;
     let requests = refused::Requests::new(seed);
-    compare_sort("small", counts.small, MANY, |index| {
-        small::compare(seed, index, counts.small)
+    compare_sort("small", asked.small, MANY, |index| {
+        small::compare(seed, index, asked.small, room)
     })?;
-    compare_sort("large", counts.large, 1, |index| {
-        large::compare(seed, index)
+    compare_sort("large", asked.large, 1, |index| {
+        large::compare(seed, index, room)
     })?;
-    compare_sort("refused", counts.refused, MANY, |index| {
+    compare_sort("refused", asked.refused, MANY, |index| {
         requests.compare(index)
     })?;
-    compare_sort("damaged", counts.damaged, MANY, |index| {
-        damaged::compare(seed, index)
+    compare_sort("damaged", asked.damaged, MANY, |index| {
+        damaged::compare(seed, index, room)
     })
 }
 
@@ -98,13 +115,15 @@ fn compare_sort(
     })
 }
 
-fn report(counts: Counts, seed: u64, result: Result<(), Found>) -> ExitCode {
-    let Counts {
+fn report(asked: Asked, result: Result<(), Found>) -> ExitCode {
+    let Asked {
         small,
         large,
         refused,
         damaged,
-    } = counts;
+        seed,
+        ..
+    } = asked;
     match result {
         Ok(()) => {
             println!(

@@ -4,7 +4,7 @@ use judge::answer::{Answer, SLOT};
 use judge::case::{Case, CHANNELS};
 use judge::rng::Rng;
 
-use super::{lending, refused};
+use super::{lending, refused, Room};
 use crate::buffers::{Buffers, Lengths};
 use crate::sheet::{Sheet, FIRST_PIXEL, PIXEL_COUNT, RESIDUE};
 
@@ -51,8 +51,8 @@ const KINDS: [fn(&mut Damaged, &mut Rng); 14] = [
 impl Damaged {
     /// What a case leaves, still undamaged, in buffers that held other numbers. There is no work
     /// buffer: no call over a sheet takes one.
-    pub fn not_yet(rng: &mut Rng, case: &Case, answer: &Answer) -> Self {
-        let mut buffers = lending::enough(rng, case.area() as usize).after(answer);
+    pub fn not_yet(rng: &mut Rng, case: &Case, answer: &Answer, room: Room) -> Self {
+        let mut buffers = lending::enough(rng, case.area() as usize, room).after(answer);
         buffers.work.clear();
         Self {
             sheet: Sheet::of(case, answer),

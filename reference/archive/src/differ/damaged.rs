@@ -7,7 +7,7 @@ use judge::{original, text};
 
 use super::damage::{around, Damaged};
 use super::held::{self, Memory, What};
-use super::{lending, refused, Difference};
+use super::{lending, refused, Difference, Room};
 use crate::refusals;
 use crate::sheet::Sheet;
 
@@ -37,8 +37,8 @@ struct Trial {
 }
 
 /// Compares the damaged case at `index`.
-pub fn compare(seed: u64, index: u64) -> Result<(), Difference> {
-    let trial = Trial::draw(&mut Rng::for_case(seed ^ DRAWS, index));
+pub fn compare(seed: u64, index: u64, room: Room) -> Result<(), Difference> {
+    let trial = Trial::draw(&mut Rng::for_case(seed ^ DRAWS, index), room);
     trial.hold().map_err(|what| Difference {
         call: trial.describe(),
         what,
@@ -46,7 +46,7 @@ pub fn compare(seed: u64, index: u64) -> Result<(), Difference> {
 }
 
 impl Trial {
-    fn draw(rng: &mut Rng) -> Self {
+    fn draw(rng: &mut Rng, room: Room) -> Self {
         let is_large = rng.below(LARGE) == 0;
         let case = if is_large {
             large(rng)
@@ -54,7 +54,7 @@ impl Trial {
             cases::mixed(rng.bits(), 0)
         };
         let answer = original::answer(&case);
-        let mut damaged = Damaged::not_yet(rng, &case, &answer);
+        let mut damaged = Damaged::not_yet(rng, &case, &answer, room);
         for _ in 0..rng.pick(&DAMAGES) {
             damaged.damage(rng);
         }
@@ -150,7 +150,7 @@ mod tests {
     fn draws_meet_every_number() {
         let mut met = [[0; 14]; 3];
         for index in 0..4_000 {
-            let trial = Trial::draw(&mut Rng::for_case(1, index));
+            let trial = Trial::draw(&mut Rng::for_case(1, index), Room::Ample);
             let Damaged { sheet, buffers, .. } = &trial.damaged;
             let picture = trial.picture.len();
             let numbers = [

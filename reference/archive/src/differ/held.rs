@@ -1,9 +1,12 @@
-//! One call of the library, held against what it must answer and leave.
+//! One call of the library, held against what it must answer and leave. Each buffer is lent as a
+//! block of memory of its own; to valgrind, what a call has no reason to read is undefined.
 
 use std::fmt::{Debug, Display};
 
+use super::marks::Marks;
 use crate::buffers::Buffers;
 use crate::call::{self, Answer, Call};
+use crate::memcheck;
 use crate::refusals;
 use crate::sheet::Sheet;
 
@@ -21,9 +24,10 @@ pub struct Memory<'a> {
 pub fn run(call: &Call, lent: &Buffers, answer: Answer, after: &Buffers) -> Result<(), What> {
     Memory::without_bytes(lent).hold(
         "color_clusters_run",
-        |buffers, _| call::run(call, buffers),
+        |buffers, _| with_image(call, answer, |call| call::run(call, buffers)),
         answer,
         Memory::without_bytes(after),
+        Marks::of_run(call, answer),
     )
 }
 
@@ -31,10 +35,27 @@ pub fn run(call: &Call, lent: &Buffers, answer: Answer, after: &Buffers) -> Resu
 pub fn run_and_paint(call: &Call, lent: Memory, answer: Answer, after: Memory) -> Result<(), What> {
     lent.hold(
         "color_clusters_run_and_paint",
-        |buffers, picture| call::run_and_paint(call, buffers, picture),
+        |buffers, picture| {
+            with_image(call, answer, |call| {
+                call::run_and_paint(call, buffers, picture)
+            })
+        },
         answer,
         after,
+        Marks::of_run(call, answer),
     )
+}
+
+/// Makes a call with a copy of its image, which a refused call has no reason to read.
+fn with_image(call: &Call, answer: Answer, make: impl FnOnce(&Call) -> Answer) -> Answer {
+    let image = call.image.to_vec();
+    if answer.number != 0 {
+        memcheck::undefined(&image);
+    }
+    make(&Call {
+        image: &image,
+        ..*call
+    })
 }
 
 /// A painting, which must give `picture` where `number` is 0.
@@ -49,6 +70,7 @@ pub fn paint(
         |buffers, picture| call::paint(sheet, buffers, picture),
         number,
         picture,
+        Marks::of_painting(sheet, number),
     )
 }
 
@@ -63,16 +85,19 @@ pub fn row_check(size: (u32, u32), picture: &[u8], y: u32) -> Result<(), What> {
         |_, picture| call::row_check(size, picture, y),
         refusals::row_check(size, picture.len(), y),
         lent,
+        Marks::default(),
     )
 }
 
 /// A storing, by the rules.
 pub fn store(sheet: Sheet, lent: Memory) -> Result<(), What> {
+    let number = refusals::store(sheet, lent.buffers, lent.bytes.len());
     lent.hold_bytes(
         "color_clusters_store",
         |buffers, destination| call::store(sheet, buffers, destination),
-        refusals::store(sheet, lent.buffers, lent.bytes.len()),
+        number,
         || sheet.stored(lent.buffers),
+        Marks::of_storing(sheet, number),
     )
 }
 
@@ -91,9 +116,12 @@ impl<'a> Memory<'a> {
         call: impl FnOnce(&mut Buffers, &mut [u8]) -> A,
         answer: A,
         after: Memory,
+        marks: Marks,
     ) -> Result<(), What> {
         let (mut buffers, mut bytes) = (self.buffers.clone(), self.bytes.to_vec());
+        marks.before(&buffers, &bytes);
         let answered = call(&mut buffers, &mut bytes);
+        marks.after(&buffers, &bytes);
         if answered == answer && buffers == *after.buffers && bytes == after.bytes {
             return Ok(());
         }
@@ -116,6 +144,7 @@ impl<'a> Memory<'a> {
         call: impl FnOnce(&mut Buffers, &mut [u8]) -> u32,
         number: u32,
         written: impl FnOnce() -> Vec<u8>,
+        marks: Marks,
     ) -> Result<(), What> {
         let bytes = if number == 0 {
             written()
@@ -126,7 +155,7 @@ impl<'a> Memory<'a> {
             bytes: &bytes,
             ..self
         };
-        self.hold(name, call, number, after)
+        self.hold(name, call, number, after, marks)
     }
 }
 
@@ -162,7 +191,7 @@ mod tests {
             buffers: &Buffers::exact(1).filled(7),
             bytes: &[7; 4],
         };
-        lent.hold("call", call, 0, lent)
+        lent.hold("call", call, 0, lent, Marks::default())
     }
 
     #[test]

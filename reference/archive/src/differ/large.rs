@@ -3,7 +3,7 @@
 use judge::case::{Case, KeyingAction, Settings, HIERARCHICAL_MAX as MAX, MAX_PIXELS, NO_KEY};
 use judge::rng::Rng;
 
-use super::{lending, Difference};
+use super::{lending, Difference, Room};
 use crate::images::{Texture, KEY};
 
 const LEAST: u32 = 10_000;
@@ -15,10 +15,10 @@ const MOST: u32 = MAX_PIXELS as u32;
 const MOST_KEPT: u32 = 2_000;
 
 /// Compares the large case at `index`.
-pub fn compare(seed: u64, index: u64) -> Result<(), Difference> {
+pub fn compare(seed: u64, index: u64, room: Room) -> Result<(), Difference> {
     let rng = &mut Rng::for_case(seed, index);
     let case = case(rng);
-    let lent = lending::enough(rng, case.area() as usize);
+    let lent = lending::enough(rng, case.area() as usize, room);
     super::accepted(&case, &lending::call(rng, &case), &lent)
 }
 

@@ -9,14 +9,26 @@ use crate::call::Call;
 /// How many numbers a buffer may have more than it is asked to have.
 const MORE: [usize; 8] = [0, 0, 1, 2, 3, 8, 21, 50];
 
+/// How long the buffers of accepted runs are.
+#[derive(Clone, Copy, Debug, PartialEq, Eq)]
+pub enum Room {
+    /// Just as long as asked.
+    Exact,
+    /// Most of them longer.
+    Ample,
+}
+
 /// The numbers for Discard.
 const DISCARDS: [u32; 6] = [1, 2, 255, 256, 1 << 31, u32::MAX];
 
-/// Buffers for an image of `pixels`, each with a length of its own, none of them short.
-pub fn enough(rng: &mut Rng, pixels: usize) -> Buffers {
+/// Buffers for an image of `pixels`, none of them short.
+pub fn enough(rng: &mut Rng, pixels: usize, room: Room) -> Buffers {
     let mut lengths = Lengths::exact(pixels);
     for length in lengths.each_mut() {
-        *length += rng.pick(&MORE);
+        let more = rng.pick(&MORE);
+        if room == Room::Ample {
+            *length += more;
+        }
     }
     any_content(rng, lengths)
 }

@@ -4,16 +4,16 @@ use judge::case::Case;
 use judge::cases::{self, Kind, TINY_CASES};
 use judge::rng::Rng;
 
-use super::{lending, Difference};
+use super::{lending, Difference, Room};
 
 /// Sets the draws for the lent buffers apart from those for the cases.
 const LENDING: u64 = 0x5eed_0001;
 
 /// Compares the small case at `index`.
-pub fn compare(seed: u64, index: u64, count: u64) -> Result<(), Difference> {
+pub fn compare(seed: u64, index: u64, count: u64, room: Room) -> Result<(), Difference> {
     let case = case(seed, index, count);
     let rng = &mut Rng::for_case(seed ^ LENDING, index);
-    let lent = lending::enough(rng, case.area() as usize);
+    let lent = lending::enough(rng, case.area() as usize, room);
     super::accepted(&case, &lending::call(rng, &case), &lent)
 }
 
