@@ -19,6 +19,7 @@ use judge::original;
 
 use crate::buffers::{Buffers, Lengths};
 use crate::call::{Answer, Call};
+use crate::refusals;
 use crate::sheet::Sheet;
 use held::{Memory, What};
 
@@ -117,4 +118,37 @@ pub fn refused(
     };
     run.and_then(|()| held::run_and_paint(call, memory, answer(with), memory))
         .map_err(|what| Difference::of_run(call, lent.lengths(), picture.len(), what))
+}
+
+/// Holds painting, a row's check and storing over any numbers against the rules.
+pub fn any_sheet(
+    sheet: Sheet,
+    buffers: &Buffers,
+    picture: &[u8],
+    y: u32,
+    destination: &[u8],
+) -> Result<(), Difference> {
+    calls_over(sheet, buffers, picture, y, destination).map_err(|what| Difference {
+        call: format!(
+            "{sheet:?}, y {y}; lent: {}, picture {}, destination {}",
+            buffers.lengths(),
+            picture.len(),
+            destination.len()
+        ),
+        what,
+    })
+}
+
+fn calls_over(
+    sheet: Sheet,
+    buffers: &Buffers,
+    picture: &[u8],
+    y: u32,
+    destination: &[u8],
+) -> Result<(), What> {
+    let lent = |bytes| Memory { buffers, bytes };
+    let number = refusals::paint(sheet, buffers, picture.len());
+    held::paint(sheet, lent(picture), number, || sheet.picture(buffers))?;
+    held::row_check((sheet.width, sheet.height), picture, y)?;
+    held::store(sheet, lent(destination))
 }

@@ -6,9 +6,8 @@ use judge::rng::Rng;
 use judge::{original, text};
 
 use super::damage::{around, Damaged};
-use super::held::{self, Memory, What};
+use super::held::What;
 use super::{lending, refused, Difference, Room};
-use crate::refusals;
 use crate::sheet::Sheet;
 
 /// Sets the draws apart from those for the other cases.
@@ -77,13 +76,7 @@ impl Trial {
 
     fn hold(&self) -> Result<(), What> {
         let Damaged { sheet, buffers, .. } = &self.damaged;
-        let lent = |bytes| Memory { buffers, bytes };
-        let number = refusals::paint(*sheet, buffers, self.picture.len());
-        held::paint(*sheet, lent(&self.picture), number, || {
-            sheet.picture(buffers)
-        })?;
-        held::row_check((sheet.width, sheet.height), &self.picture, self.y)?;
-        held::store(*sheet, lent(&self.destination))
+        super::calls_over(*sheet, buffers, &self.picture, self.y, &self.destination)
     }
 
     /// The run, what the calls are given, and what was changed in the buffers.
@@ -145,6 +138,7 @@ fn any_row(rng: &mut Rng, height: u32) -> u32 {
 #[cfg(test)]
 mod tests {
     use super::*;
+    use crate::refusals;
 
     #[test]
     fn draws_meet_every_number() {

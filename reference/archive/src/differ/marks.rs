@@ -15,7 +15,7 @@ const BEFORE_READING: Range<u32> = 1..7;
 
 /// What painting and storing have no reason to read of a slot.
 const UNPAINTED: &[Range<usize>] = &[2..RESIDUE, RESIDUE + 5..SLOT];
-const UNSTORED: &[Range<usize>] = &[2..SLOT];
+const UNSTORED: &[Range<usize>] = &[2..RESIDUE, RESIDUE..SLOT];
 
 /// So many numbers from the front of labels, links, table, outputs and work.
 type Fronts = [usize; 5];
