@@ -5,6 +5,7 @@
 #
 #   reference/fuzz.sh                 for 30 minutes
 #   reference/fuzz.sh 120             for so many seconds; further words go to libFuzzer
+#   FUZZ_LEVEL=-O0 reference/fuzz.sh 120          the library not optimised: a counter for each block of its source
 #   FUZZ_FAULT=short reference/fuzz.sh 60         each buffer shorter than told: must be found
 #   FUZZ_FAULT=expectation reference/fuzz.sh 60   a wrong expectation: must be found
 #
@@ -72,7 +73,7 @@ say "compiling its module again, with coverage and AddressSanitizer"
 # Every function has the attributes #0; those of this name are checked.
 sed -i 's/^attributes #0 = { /&sanitize_address /' "$out/module.ll"
 grep -q sanitize_address "$out/module.ll" || { say "the module has no attributes #0" >&2; exit 1; }
-"$clang" -c -O1 -fPIC -fsanitize=address,fuzzer-no-link -x ir "$out/module.ll" -o "$out/module.o"
+"$clang" -c "${FUZZ_LEVEL:--O1}" -fPIC -fsanitize=address,fuzzer-no-link -x ir "$out/module.ll" -o "$out/module.o"
 rm -f "$out/lib/libcolor_clusters.a"
 ar rcs "$out/lib/libcolor_clusters.a" "$out/module.o"
 

@@ -1,5 +1,6 @@
 //! The calls of the library, without their pointers.
 
+use std::ptr;
 use std::sync::atomic::{AtomicUsize, Ordering};
 
 use judge::case::{Case, KeyingAction, Settings};
@@ -70,6 +71,25 @@ fn told<T>(buffer: &[T]) -> usize {
     }
 }
 
+/// The pointer to a buffer that the library is given; where the buffer is empty it is NULL, as C
+/// programs have it.
+fn pointer<T>(buffer: &mut [T]) -> *mut T {
+    if buffer.is_empty() {
+        ptr::null_mut()
+    } else {
+        buffer.as_mut_ptr()
+    }
+}
+
+/// The same of what is only read.
+fn const_pointer<T>(buffer: &[T]) -> *const T {
+    if buffer.is_empty() {
+        ptr::null()
+    } else {
+        buffer.as_ptr()
+    }
+}
+
 /// Calls a function of the library with numbers, slices and numbers again. A slice becomes a pointer
 /// and a length.
 macro_rules! pass {
@@ -77,7 +97,7 @@ macro_rules! pass {
         // SAFETY: each pointer comes with the length of its own slice, where no fault is wanted.
         // The slices are borrowed at the same time and mutably, so no two overlap; the image is
         // borrowed beside them. The call keeps none of them.
-        unsafe { $function($($number,)* $($slice.as_mut_ptr(), told(&$slice),)* $($last),*) }
+        unsafe { $function($($number,)* $(pointer(&mut $slice[..]), told(&$slice),)* $($last),*) }
     };
 }
 
@@ -95,7 +115,7 @@ macro_rules! pass_run {
             settings.good_max_area,
             settings.hollow_neighbours,
             settings.deepen_diff,
-            key_r, key_g, key_b, key_a, action, width, height, image.as_ptr(), image.len();
+            key_r, key_g, key_b, key_a, action, width, height, const_pointer(image), image.len();
             labels, links, table, outputs, work $(, $picture)?;
         ))
     }};
