@@ -8,19 +8,22 @@ and `new:` as in the edits under must-fail/, with paths from the repository's ro
 admits any more, and the program `replay` is run on it without proof (`rt try`): it counts the recorded cases that differ. Before the
 first edit the copy is run as it stands, and must not differ.
 
-Prints a line for each reading. Exit status: 0 all are caught, 1 one is not, 2 an edit cannot be tried: its `old:` text is not in the file
+Up to RT_JOBS edits (the machine's processors) are tried at a time. Prints a line for each reading. Exit status: 0 all are caught, 1 one is not, 2 an edit cannot be tried: its `old:` text is not in the file
 exactly once, or the code does not compile.
 """
+import os
 import pathlib
 import re
 import shutil
 import subprocess
 import sys
 import tempfile
+from concurrent.futures import ThreadPoolExecutor
 
 ROOT = pathlib.Path(__file__).resolve().parent.parent
 EDITS = ROOT / "reference/wrong_readings"
-BUILD = "the native program at -O3"
+# Where it ends, no edit broke what the compiler was told to assume, and its answers count.
+BUILD = "the native program with LLVM's assumptions checked"
 SECONDS = 300
 
 
@@ -105,23 +108,28 @@ def attempt(edit):
         return outcome(replay(folder))
 
 
+def line(name):
+    """How the edit `name` comes out (caught, missed or bad), and what is said of it."""
+    try:
+        reading, edit = parse((EDITS / f"{name}.edit").read_text())
+        caught, what = attempt(edit)
+    except (BadEdit, OSError, subprocess.TimeoutExpired) as problem:
+        return "bad", f"{name}: BAD EDIT: {problem}"
+    return "caught" if caught else "missed", f"{name}: {reading}: {what}"
+
+
 def main():
     names = sys.argv[1:] or sorted(path.stem for path in EDITS.glob("*.edit"))
     caught, what = attempt(None)
     if caught:
         sys.exit(f"without an edit: {what}")
-    total = bad = missed = 0
-    for name in names:
-        try:
-            reading, edit = parse((EDITS / f"{name}.edit").read_text())
-            caught, what = attempt(edit)
-        except (BadEdit, OSError, subprocess.TimeoutExpired) as problem:
-            reading, caught, what = "BAD EDIT", True, problem
-            bad += 1
-        missed += not caught
-        total += 1
-        print(f"{name}: {reading}: {what}", flush=True)
-    print(f"{total} wrong readings, {total - bad - missed} caught, {missed} not caught, {bad} bad edits")
+    came_out = []
+    with ThreadPoolExecutor(int(os.environ.get("RT_JOBS") or os.cpu_count())) as jobs:
+        for how, said in jobs.map(line, names):
+            came_out.append(how)
+            print(said, flush=True)
+    caught, missed, bad = (came_out.count(how) for how in ("caught", "missed", "bad"))
+    print(f"{len(names)} wrong readings: {caught} caught, {missed} not caught, {bad} bad edits")
     sys.exit(2 if bad else 1 if missed else 0)
 
 
