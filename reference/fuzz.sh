@@ -65,8 +65,13 @@ END
 chmod +x "$kit/$own/toolchain/bin/clang"
 
 say "proving and compiling the library"
-rm -f "$out/module.bc"
+archive=target/staticlib/libcolor_clusters.a
+rm -f "$out/module.bc" "$out/before.a"
+[ ! -f "$archive" ] || cp "$archive" "$out/before.a"
 RATTLE_HOME=$kit rt staticlib color_clusters >"$out/log" || { tail -n 5 "$out/log"; exit 1; }
+if [ -f "$out/before.a" ]; then
+    cmp "$archive" "$out/before.a" && say "its archive is the one that was there, byte for byte"
+fi
 
 say "compiling its module again, with coverage and AddressSanitizer"
 "$clang" -S -emit-llvm -Xclang -disable-llvm-passes -x ir "$out/module.bc" -o "$out/module.ll"
