@@ -22,6 +22,9 @@ const LONGEST: u32 = 12;
 /// The number of different colours of an image.
 const COLORS: usize = 8;
 
+/// Below this n and m, a destination of their length is lent.
+const LENDABLE: u32 = 1_000;
+
 /// Numbers at the edges of what is accepted.
 const EDGES: [u32; 12] = [
     0,
@@ -200,7 +203,7 @@ impl Bytes<'_> {
     }
 }
 
-/// The rules decide which numbers the calls must answer, and the original what an accepted run leaves.
+/// The rules decide which numbers the calls must answer, the original what an accepted run leaves.
 fn trial(from: &mut Bytes) -> Result<(), Difference> {
     if fault() == "short" {
         call::lend_short();
@@ -289,11 +292,15 @@ fn sheet(
         n: from.count(right.n()),
         m: from.count(right.m()),
     };
-    let fitting = if sheet.n.max(sheet.m) < 1_000 {
-        2 * (4 + 2 * pixels + 2 * sheet.n as usize + sheet.m as usize)
+    let fitting = if sheet.n.max(sheet.m) < LENDABLE {
+        Sheet {
+            width,
+            height,
+            ..sheet
+        }
     } else {
-        Sheet::of(&case, &right).stored_length()
+        Sheet::of(&case, &right)
     };
-    let destination = vec![from.byte(); from.length(fitting)];
+    let destination = vec![from.byte(); from.length(fitting.stored_length())];
     differ::any_sheet(sheet, &buffers, &picture, y, &destination)
 }
