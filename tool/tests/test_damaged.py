@@ -111,5 +111,5 @@ class Damaged(Case):
         with open(path, "ab") as file:
             file.truncate(3 << 30)
         result = self.sheet("make", "large.png", "s.png", status=1)
-        self.assertIn(b"broken PNG", result.stderr)
+        self.assertIn(b"it is a PNG of 64 MiB or more", result.stderr)
         self.assertFalse((self.folder / "s.png").exists())
