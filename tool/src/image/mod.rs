@@ -43,7 +43,8 @@ pub fn read(place: &Place, accepts: Accepts) -> Result<Image, Failure> {
     } else if cut_off {
         Err(broken("chart", "it ends after its first bytes"))
     } else {
-        Err(Failure::File("it is neither PNG nor PAM".to_string()))
+        let text = "it is neither PNG nor PAM. Save the chart as PNG.";
+        Err(Failure::File(text.to_string()))
     }
 }
 
@@ -86,7 +87,10 @@ impl Image {
 
 /// The failure for a file that is not what its first bytes promise.
 fn broken(kind: &str, why: &str) -> Failure {
-    Failure::File(format!("it is a broken {kind}: {why}"))
+    let why = why.trim_end_matches('.');
+    Failure::File(format!(
+        "it is a broken {kind}: {why}. Save or copy it anew."
+    ))
 }
 
 #[cfg(test)]

@@ -29,7 +29,7 @@ pub fn decode(input: &mut dyn Read, accepts: Accepts) -> Result<Image, Failure> 
     accepts(width, height)?;
     bytes.append(&mut up_to(input, MAX_BYTES)?);
     if bytes.len() as u64 >= MAX_BYTES {
-        let text = "it is a PNG of 64 MiB or more, far more than its size needs; save it anew";
+        let text = "it is a PNG of 64 MiB or more, far more than its size needs. Save it anew.";
         return Err(Failure::File(text.to_string()));
     }
     check_to_the_end(&bytes)?;
@@ -129,7 +129,7 @@ fn cut_off() -> Failure {
 fn wrong(error: DecodingError) -> Failure {
     match error {
         DecodingError::LimitsExceeded => Failure::File(
-            "it is a PNG with more than 1 MiB of text, profile or other notes in one piece; save it without them"
+            "it is a PNG with more than 1 MiB of text, profile or other notes in one piece. Save it without them."
                 .to_string(),
         ),
         error => broken("PNG", &error.to_string()),
