@@ -41,8 +41,8 @@ LLLLLLLL~~~~~~~~~~~~~~~~
 COLOURS = {
     "L": (236, 214, 150),  # land
     "~": (190, 220, 240),  # water
-    "r": (200, 30, 40),    # the red sector, and where the scan gave it lighter
-    "R": (212, 42, 46),
+    "r": (200, 30, 40),    # the red sector
+    "R": (212, 42, 46),    # the same, where the scan is lighter
     "S": (110, 160, 210),  # a shoal
     "w": (40, 36, 44),     # a wreck
     "g": (30, 150, 80),    # the green sector
@@ -130,6 +130,7 @@ def coast(y):
 
 
 def cross(a, b):
+    """At least 0 where b lies clockwise of a, up to half a turn."""
     return a[0] * b[1] - a[1] * b[0]
 
 
