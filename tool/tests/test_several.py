@@ -79,6 +79,10 @@ class Several(Case):
         self.sheet("make", *self.images, "--out-dir", "out", status=1)
         self.assertFalse((self.folder / "out").exists())
 
-    def test_nothing_of_a_progress_line_without_a_terminal(self):
-        result = self.sheet("make", *self.images, "--out-dir", "out", "--quiet")
-        self.assertEqual((result.stdout, result.stderr), (b"", b""))
+    def test_quietly_only_what_is_wrong_is_told(self):
+        for words in (["make", "--out-dir", "out"], ["clusters"]):
+            result = self.sheet(*words, *self.images, "--quiet")
+            self.assertEqual((result.stdout, result.stderr), (b"", b""))
+            self.misused(*words, *self.images, "--quiet", "--json", says="--json")
+            result = self.sheet(*words, "a.png", "absent.png", "-q", status=1)
+            self.assertEqual((result.stdout, result.stderr), (b"", b"sheet: absent.png: there is no such file\n"))
