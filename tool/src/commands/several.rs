@@ -9,6 +9,7 @@ use crate::failure::{Failure, Outcome};
 use crate::output::{print, print_json};
 use crate::place::Place;
 
+/// How several charts are worked on, and how they are told.
 #[derive(Args, Clone, Copy, Debug)]
 pub struct Several {
     /// Print a line of JSON for each chart
