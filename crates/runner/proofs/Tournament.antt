@@ -14,7 +14,7 @@ use Rattle.rules.specs.Base.{if_then_else_}
 use Rattle.rules.proofs.Facts.{both-true}
 use Rattle.runner.specs.declared.queue.Entry.{Entry}
 use Rattle.runner.specs.declared.queue.Taken.{Taken}
-use Rattle.runner.specs.Queue.{Sized, leaf, node, entryAt, rankOf, firstOf, besideOf, firstBelow, Tree, refreshed, Refreshed, First}
+use Rattle.runner.specs.Queue.{Sized, leaf, node, entryAt, rankOf, firstOf, besideOf, holding, firstBelow, Tree, refreshed, Refreshed, First}
 
 -- ---- the order of entries
 
@@ -235,20 +235,19 @@ module _ (queue : List ℕ) (n room : ℕ) (S : Sized n room (length queue)) (j 
       go (yes e) = subst (λ y. entryAt (refreshed queue n room j) n room y ≡ firstBelow queue n room y) (sym e) made-node ∙ sym below
       go (no e) = made-other i (omega arith) e ∙ h e ∙ sym below
 
--- ---- the stores of one node
+-- ---- the store of one node
 
 module _ (queue : List ℕ) (n room j : ℕ) (e : Entry) (is : e ≡ firstBelow queue n room j) where
-  pub stored-node : set (set queue (room + 2 * j) (e .key)) (room + 2 * j + 1) (e .slot) ≡ refreshed queue n room j
+  pub held-node : holding queue room j e ≡ refreshed queue n room j
   unfolding refreshed
-  stored-node = ap (λ x. set (set queue (room + 2 * j) (x .key)) (room + 2 * j + 1) (x .slot)) is
+  held-node = ap (holding queue room j) is
 
   -- a node that holds it already needs no store
-  pub kept-node : (eqb (getD queue (room + 2 * j) 0) (e .key) && eqb (getD queue (room + 2 * j + 1) 0) (e .slot)) ≡ true → queue ≡ refreshed queue n room j
-  kept-node t =
-      let b = both-true (eqb (getD queue (room + 2 * j) 0) (e .key)) (eqb (getD queue (room + 2 * j + 1) 0) (e .slot)) t in
-      sym (set-getD queue (room + 2 * j + 1) 0)
-      ∙ ap₂ (λ q v. set q (room + 2 * j + 1) v) (sym (set-getD queue (room + 2 * j) 0) ∙ ap (set queue (room + 2 * j)) (eqb-true (getD queue (room + 2 * j) 0) (e .key) (b .0))) (eqb-true (getD queue (room + 2 * j + 1) 0) (e .slot) (b .1))
-      ∙ stored-node
+  pub kept-node : j < n → (old : Entry) → old ≡ entryAt queue n room j → (eqb (old .key) (e .key) && eqb (old .slot) (e .slot)) ≡ true → queue ≡ refreshed queue n room j
+  kept-node l old at t =
+      let b = both-true (eqb (old .key) (e .key)) (eqb (old .slot) (e .slot)) t in
+      let z : node queue room j ≡ e = sym (at-node queue n room j l) ∙ sym at ∙ ap₂ (λ k s. record { key = k; slot = s }) (eqb-true (old .key) (e .key) (b .0)) (eqb-true (old .slot) (e .slot) (b .1)) in
+      sym (set-getD queue (room + 2 * j + 1) 0) ∙ ap (λ q. set q (room + 2 * j + 1) (getD queue (room + 2 * j + 1) 0)) (sym (set-getD queue (room + 2 * j) 0)) ∙ ap (holding queue room j) z ∙ held-node
 
 -- ---- a changed key
 
@@ -331,8 +330,8 @@ pub record Building (queue₀ queue : List ℕ) (n room j : ℕ) : Type 0 where
 pub build-start : (queue : List ℕ) (n room : ℕ) → Sized n room (length queue) → Building queue queue n room n
 build-start queue n room S = record { sized = S; long = refl; inside = omega arith; done = λ i a b. absurd (omega arith); keys = λ x l. refl }
 
-pub build-down : (queue₀ queue next : List ℕ) (n room j : ℕ) → Building queue₀ queue n room j → 1 < j → next ≡ refreshed queue n room (2 * (j - 1) / 2) → Building queue₀ next n room (j - 1)
-build-down queue₀ queue next n room j B pos e = subst (λ q. Building queue₀ q n room (j - 1)) (sym (e ∙ ap (refreshed queue n room) half)) (record {
+pub build-down : (queue₀ queue next : List ℕ) (n room j : ℕ) → Building queue₀ queue n room j → 1 < j → next ≡ refreshed queue n room (j - 1) → Building queue₀ next n room (j - 1)
+build-down queue₀ queue next n room j B pos e = subst (λ q. Building queue₀ q n room (j - 1)) (sym e) (record {
   sized = subst (Sized n room) (sym (made-length queue n room (B .sized) (j - 1) b)) (B .sized);
   long = made-length queue n room (B .sized) (j - 1) b ∙ B .long;
   inside = omega (arith, B .inside);
@@ -340,9 +339,6 @@ build-down queue₀ queue next n room j B pos e = subst (λ q. Building queue₀
   keys = λ x l. made-keys queue n room (B .sized) (j - 1) b x l ∙ B .keys x l;
 })
   where
-    half : 2 * (j - 1) / 2 ≡ j - 1
-    half = omega arith
-
     b : j - 1 < n
     b = omega (arith, B .inside)
 

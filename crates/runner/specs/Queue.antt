@@ -50,9 +50,13 @@ firstBelow queue n room j = firstOf (entryAt queue n room (2 * j)) (entryAt queu
 unfoldable pub Tree : List ℕ → ℕ → ℕ → Type 0
 Tree queue n room = (j : ℕ) → 1 ≤ j → j < n → entryAt queue n room j ≡ firstBelow queue n room j
 
+-- node j made to hold e
+abbrev pub holding : List ℕ → ℕ → ℕ → Entry → List ℕ
+holding queue room j e = set (set queue (room + 2 * j) (e .key)) (room + 2 * j + 1) (e .slot)
+
 -- node j made from its children
 unfoldable pub refreshed : List ℕ → ℕ → ℕ → ℕ → List ℕ
-refreshed queue n room j = set (set queue (room + 2 * j) (firstBelow queue n room j .key)) (room + 2 * j + 1) (firstBelow queue n room j .slot)
+refreshed queue n room j = holding queue room j (firstBelow queue n room j)
 
 -- a node that did not change cannot change those above it
 pub record Refreshed (before after : List ℕ) (n room j : ℕ) (r : Taken) : Type 0 where

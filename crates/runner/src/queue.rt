@@ -6,7 +6,7 @@
 ghost use mathlib.Core.Path.{_≡_};
 ghost use Prim.Native.Nat.{_+_, _*_, _/_, _≤_, _<_};
 ghost use lib.ListN.{length};
-ghost use Rattle.runner.specs.Queue.{Sized, entryAt, rankOf, firstOf, besideOf, Tree, Refreshed, Built, KeySet, First};
+ghost use Rattle.runner.specs.Queue.{Sized, entryAt, rankOf, firstOf, holding, besideOf, Tree, Refreshed, Built, KeySet, First};
 
 // The key of a slot that is not pending.
 pub(crate) const NONE: u32 = 4294967295;
@@ -58,6 +58,31 @@ fn beside(x: usize) -> usize
     if x % 2 == 0 { x + 1 } else { x - 1 }
 }
 
+// Node j holds e from now on.
+fn hold(queue: &mut [u32], n: usize, room: usize, j: usize, e: Entry)
+    requires { ⌜ Sized n room (length (now queue)) ⌝ }
+    requires { ⌜ j < n ⌝ }
+    ensures { λ _. ⌜ now (queue .exit) ≡ holding (now (queue .entry)) room j e ⌝ }
+{
+    let p = room + 2 * j;
+    queue[p] = e.key;
+    queue[p + 1] = e.slot;
+}
+
+// Makes every node of the tree from the keys.
+pub(crate) fn build(queue: &mut [u32], n: usize, room: usize)
+    requires { ⌜ Sized n room (length (now queue)) ⌝ }
+    ensures { λ _. ⌜ Built (now (queue .entry)) (now (queue .exit)) n room ⌝ }
+{
+    let mut j = n;
+    while 1 < j {
+        j = j - 1;
+        let a = at(queue, n, room, 2 * j);
+        let b = at(queue, n, room, 2 * j + 1);
+        hold(queue, n, room, j, first_of(a, b));
+    }
+}
+
 // What a node holds, and whether that changed it.
 pub(crate) struct Taken {
     pub(crate) entry: Entry,
@@ -72,31 +97,17 @@ fn refresh(queue: &mut [u32], n: usize, room: usize, x: usize, e: Entry) -> Take
     ensures { λ r. ⌜ Refreshed (now (queue .entry)) (now (queue .exit)) n room (x / 2) r ⌝ }
 {
     let first = first_of(e, at(queue, n, room, beside(x)));
-    let p = room + 2 * (x / 2);
-    if (queue[p] == first.key) & (queue[p + 1] == first.slot) {
+    let old = at(queue, n, room, x / 2);
+    if (old.key == first.key) & (old.slot == first.slot) {
         return Taken {
             entry: first,
             changed: false,
         };
     }
-    queue[p] = first.key;
-    queue[p + 1] = first.slot;
+    hold(queue, n, room, x / 2, first);
     Taken {
         entry: first,
         changed: true,
-    }
-}
-
-// Makes every node of the tree from the keys.
-pub(crate) fn build(queue: &mut [u32], n: usize, room: usize)
-    requires { ⌜ Sized n room (length (now queue)) ⌝ }
-    ensures { λ _. ⌜ Built (now (queue .entry)) (now (queue .exit)) n room ⌝ }
-{
-    let mut j = n;
-    while 1 < j {
-        j = j - 1;
-        let e = at(queue, n, room, 2 * j);
-        refresh(queue, n, room, 2 * j, e);
     }
 }
 
