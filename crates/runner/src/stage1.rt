@@ -233,14 +233,13 @@ fn place(
     o: RunnerConfig,
     shift: u32,
     w: u32,
-    h: u32,
     v: Sides,
     i: u32,
     x: u32,
     y: u32,
 ) -> Slots
-    requires { ⌜ ((st : State) × (t₀ : List ℕ) × Placing (configOf o) w h (now image) shift i x y (v .left) (v .up) st t₀ (now labels) (now links) (now table) (now ends) (v .next) (v .count)) ⌝ }
-    ensures { λ r. ⌜ ((st : State) (t₀ : List ℕ) → Placing (configOf o) w h (now (image .entry)) shift i x y (v .left) (v .up) st t₀ (now (labels .entry)) (now (links .entry)) (now (table .entry)) (now (ends .entry)) (v .next) (v .count) → Holding (w * h) (rules.place (configOf o) w (now (image .entry)) i (v .left) (v .up) st) t₀ (now (labels .exit)) (now (links .exit)) (now (table .exit)) (now (ends .exit)) (r .next) (r .count)) ⌝ }
+    requires { ⌜ ((h : ℕ) × (st : State) × (t₀ : List ℕ) × Placing (configOf o) w h (now image) shift i x y (v .left) (v .up) st t₀ (now labels) (now links) (now table) (now ends) (v .next) (v .count)) ⌝ }
+    ensures { λ r. ⌜ ((h : ℕ) (st : State) (t₀ : List ℕ) → Placing (configOf o) w h (now (image .entry)) shift i x y (v .left) (v .up) st t₀ (now (labels .entry)) (now (links .entry)) (now (table .entry)) (now (ends .entry)) (v .next) (v .count) → Holding (w * h) (rules.place (configOf o) w (now (image .entry)) i (v .left) (v .up) st) t₀ (now (labels .exit)) (now (links .exit)) (now (table .exit)) (now (ends .exit)) (r .next) (r .count)) ⌝ }
 {
     let to = aims(image, o, shift, w, i, x, y);
     if is_nowhere(to) {
@@ -338,14 +337,13 @@ fn meet(
     o: RunnerConfig,
     shift: u32,
     w: u32,
-    h: u32,
     s: Slots,
     i: u32,
     x: u32,
     y: u32,
 ) -> Sides
-    requires { ⌜ ((t₀ : List ℕ) × Taking (configOf o) w h (now image) shift i x y t₀ (now labels) (now links) (now table) (now ends) (s .next) (s .count)) ⌝ }
-    ensures { λ r. ⌜ ((t₀ : List ℕ) → Taking (configOf o) w h (now (image .entry)) shift i x y t₀ (now (labels .entry)) (now (links .entry)) (now (table .entry)) (now (ends .entry)) (s .next) (s .count) → Sided (configOf o) w h (now (image .entry)) shift i x y (rules.taken (configOf o) w (now (image .entry)) (w * h) (suc i)) t₀ (now (labels .exit)) (now (links .exit)) (now (table .exit)) (now (ends .exit)) (r .left) (r .up) (r .next) (r .count)) ⌝ }
+    requires { ⌜ ((h : ℕ) × (t₀ : List ℕ) × Taking (configOf o) w h (now image) shift i x y t₀ (now labels) (now links) (now table) (now ends) (s .next) (s .count)) ⌝ }
+    ensures { λ r. ⌜ ((h : ℕ) (t₀ : List ℕ) → Taking (configOf o) w h (now (image .entry)) shift i x y t₀ (now (labels .entry)) (now (links .entry)) (now (table .entry)) (now (ends .entry)) (s .next) (s .count) → Sided (configOf o) w h (now (image .entry)) shift i x y (rules.taken (configOf o) w (now (image .entry)) (w * h) (suc i)) t₀ (now (labels .exit)) (now (links .exit)) (now (table .exit)) (now (ends .exit)) (r .left) (r .up) (r .next) (r .count)) ⌝ }
 {
     let u = up_label(labels, w, i, y);
     let l = left_label(labels, i, x);
@@ -370,45 +368,16 @@ fn take_pixel(
     o: RunnerConfig,
     shift: u32,
     w: u32,
-    h: u32,
     s: Slots,
     i: u32,
     x: u32,
     y: u32,
 ) -> Slots
-    requires { ⌜ ((t₀ : List ℕ) × Taking (configOf o) w h (now image) shift i x y t₀ (now labels) (now links) (now table) (now ends) (s .next) (s .count)) ⌝ }
-    ensures { λ r. ⌜ ((t₀ : List ℕ) → Taking (configOf o) w h (now (image .entry)) shift i x y t₀ (now (labels .entry)) (now (links .entry)) (now (table .entry)) (now (ends .entry)) (s .next) (s .count) → Holding (w * h) (rules.taken (configOf o) w (now (image .entry)) (w * h) (suc i)) t₀ (now (labels .exit)) (now (links .exit)) (now (table .exit)) (now (ends .exit)) (r .next) (r .count)) ⌝ }
+    requires { ⌜ ((h : ℕ) × (t₀ : List ℕ) × Taking (configOf o) w h (now image) shift i x y t₀ (now labels) (now links) (now table) (now ends) (s .next) (s .count)) ⌝ }
+    ensures { λ r. ⌜ ((h : ℕ) (t₀ : List ℕ) → Taking (configOf o) w h (now (image .entry)) shift i x y t₀ (now (labels .entry)) (now (links .entry)) (now (table .entry)) (now (ends .entry)) (s .next) (s .count) → Holding (w * h) (rules.taken (configOf o) w (now (image .entry)) (w * h) (suc i)) t₀ (now (labels .exit)) (now (links .exit)) (now (table .exit)) (now (ends .exit)) (r .next) (r .count)) ⌝ }
 {
-    let v = meet(
-        image,
-        labels,
-        links,
-        table,
-        ends,
-        o,
-        shift,
-        w,
-        h,
-        s,
-        i,
-        x,
-        y,
-    );
-    place(
-        image,
-        labels,
-        links,
-        table,
-        ends,
-        o,
-        shift,
-        w,
-        h,
-        v,
-        i,
-        x,
-        y,
-    )
+    let v = meet(image, labels, links, table, ends, o, shift, w, s, i, x, y);
+    place(image, labels, links, table, ends, o, shift, w, v, i, x, y)
 }
 
 // A column and a row.
@@ -459,7 +428,6 @@ pub(crate) fn stage_1(
             o,
             shift,
             w,
-            h,
             s,
             i,
             at.x,
