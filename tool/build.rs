@@ -1,23 +1,29 @@
-//! Links the proved library from its archive.
+// Links the proved library from its archive. `reference/archive/build.rs` is this file too.
 
 use std::path::{Path, PathBuf};
 use std::{env, process};
 
 const ARCHIVE: &str = "libcolor_clusters.a";
 
-/// The folder of the archive, from this crate's folder, if COLOR_CLUSTERS_LIB is not set.
-const DEFAULT_FOLDER: &str = "../target/staticlib";
-
 fn main() {
     println!("cargo:rerun-if-env-changed=COLOR_CLUSTERS_LIB");
     let given = env::var_os("COLOR_CLUSTERS_LIB").filter(|folder| !folder.is_empty());
-    let folder = PathBuf::from(given.unwrap_or_else(|| DEFAULT_FOLDER.into()));
+    let folder = given.map_or_else(usual_folder, PathBuf::from);
     let archive = folder.join(ARCHIVE);
     println!("cargo:rerun-if-changed={}", archive.display());
     match folder.canonicalize() {
         Ok(folder) if archive.is_file() => link(&folder),
         _ => stop(&archive),
     }
+}
+
+/// Where `rt` writes the archive, below the repository's root: the folder with the list of crates.
+fn usual_folder() -> PathBuf {
+    let here = Path::new(env!("CARGO_MANIFEST_DIR"));
+    let root = here
+        .ancestors()
+        .find(|folder| folder.join("crates.txt").is_file());
+    root.unwrap_or(here).join("target/staticlib")
 }
 
 fn link(folder: &Path) {

@@ -6,25 +6,18 @@ use indicatif::{ProgressBar, ProgressDrawTarget, ProgressStyle};
 use rayon::iter::{IntoParallelRefIterator, ParallelIterator};
 use rayon::ThreadPoolBuilder;
 
-use crate::failure::{Failure, Outcome};
+use crate::failure::Failure;
 
-/// How many charts are worked on at the same time.
-#[derive(clap::Args, Clone, Copy, Debug)]
-pub struct Jobs {
-    /// How many charts are worked on at the same time [default: as many as the machine has processors]
-    #[arg(long, value_name = "COUNT", value_parser = clap::value_parser!(u16).range(1..=1024))]
-    jobs: Option<u16>,
-}
-
-/// Does `work` for each item, and answers what came of each, in their order. A failure is told on
-/// standard error under the item's name as soon as it happens.
+/// Does `work` for each item, `jobs` of them at the same time or as many as there are processors, and
+/// answers what came of each, in their order. A failure is told on standard error under the item's name
+/// as soon as it happens.
 pub fn each<T: Sync, R: Send>(
-    jobs: Jobs,
+    jobs: Option<u16>,
     items: &[T],
     name: impl Fn(&T) -> String + Sync,
     work: impl Fn(&T) -> Result<R, Failure> + Sync,
 ) -> Result<Vec<Result<R, Failure>>, Failure> {
-    let threads = usize::from(jobs.jobs.unwrap_or(0)).min(items.len());
+    let threads = usize::from(jobs.unwrap_or(0)).min(items.len());
     let pool = ThreadPoolBuilder::new().num_threads(threads).build();
     let pool = pool.map_err(|error| Failure::File(format!("no threads can be had: {error}")))?;
     let progress = progress(items.len());
@@ -44,14 +37,6 @@ pub fn each<T: Sync, R: Send>(
 /// Says on standard error why something named failed.
 pub fn tell(name: &str, failure: &Failure) {
     eprintln!("sheet: {name}: {failure}");
-}
-
-/// Bad where anything failed.
-pub fn outcome<R>(results: &[Result<R, Failure>]) -> Outcome {
-    match results.iter().all(Result::is_ok) {
-        true => Outcome::Good,
-        false => Outcome::Bad,
-    }
 }
 
 /// A line on a terminal; nothing where standard error is no terminal, or for one chart.
@@ -87,13 +72,11 @@ mod tests {
             0 => Ok(number / 2),
             _ => Err(Failure::File("odd".to_string())),
         };
-        let jobs = Jobs { jobs: Some(3) };
-        let results = each(jobs, &[4, 5, 6], u32::to_string, half).unwrap();
-        assert_eq!(outcome(&results), Outcome::Bad);
-        let good: Vec<Option<u32>> = results.into_iter().map(Result::ok).collect();
-        assert_eq!(good, [Some(2), None, Some(3)]);
-        let results = each(jobs, &[4, 6], u32::to_string, half).unwrap();
-        assert_eq!(outcome(&results), Outcome::Good);
+        for jobs in [None, Some(1), Some(3)] {
+            let results = each(jobs, &[4, 5, 6], u32::to_string, half).unwrap();
+            let good: Vec<Option<u32>> = results.into_iter().map(Result::ok).collect();
+            assert_eq!(good, [Some(2), None, Some(3)]);
+        }
     }
 
     #[test]

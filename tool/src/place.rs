@@ -59,6 +59,14 @@ impl Place {
     }
 }
 
+/// Reads at most `count` bytes.
+pub fn up_to(input: &mut dyn Read, count: u64) -> Result<Vec<u8>, Failure> {
+    let mut bytes = Vec::new();
+    let read = input.take(count).read_to_end(&mut bytes);
+    read.map_err(|error| unreadable(&error))?;
+    Ok(bytes)
+}
+
 /// The failure for a file that can't be read.
 pub fn unreadable(error: &io::Error) -> Failure {
     Failure::File(match error.kind() {

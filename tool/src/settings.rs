@@ -9,74 +9,67 @@ const HIERARCHICAL_MAX: u32 = u32::MAX;
 
 /// What the library is told besides the chart. A range that only the library checks is not checked here.
 #[derive(Args, Clone, Debug)]
-#[command(next_help_heading = "Settings of the clustering, named as in the Rust original")]
+#[command(
+    next_help_heading = "Settings of the clustering, named as in the Rust original",
+    rename_all = "snake_case",
+    allow_negative_numbers = true
+)]
 pub struct Settings {
     /// How many low bits of a channel are left out when two colours are compared: 0 to 7
     #[arg(
-        long = "is_same_color_a",
+        long,
         alias = "is-same-color-a",
         value_name = "SHIFT",
-        default_value_t = 4,
-        allow_negative_numbers = true
+        default_value_t = 4
     )]
     pub is_same_color_a: i32,
 
     /// How far the channels of two like colours may then lie apart
     #[arg(
-        long = "is_same_color_b",
+        long,
         alias = "is-same-color-b",
         value_name = "STEPS",
-        default_value_t = 1,
-        allow_negative_numbers = true
+        default_value_t = 1
     )]
     pub is_same_color_b: i32,
 
     /// A cluster with more pixels than this is not merged into another; the default lets patches lie inside patches
-    #[arg(
-        long = "hierarchical",
-        value_name = "PIXELS",
-        default_value_t = HIERARCHICAL_MAX,
-        allow_negative_numbers = true
-    )]
+    #[arg(long, value_name = "PIXELS", default_value_t = HIERARCHICAL_MAX)]
     pub hierarchical: u32,
 
     /// A cluster can stay a patch inside another only if it has more pixels than this
     #[arg(
-        long = "good_min_area",
+        long,
         alias = "good-min-area",
         value_name = "PIXELS",
-        default_value_t = 16,
-        allow_negative_numbers = true
+        default_value_t = 16
     )]
     pub good_min_area: u32,
 
     /// A cluster can stay a patch inside another only if it has fewer pixels than this
     #[arg(
-        long = "good_max_area",
+        long,
         alias = "good-max-area",
         value_name = "PIXELS",
-        default_value_t = 65_536,
-        allow_negative_numbers = true
+        default_value_t = 65_536
     )]
     pub good_max_area: u32,
 
     /// A patch inside another counts as a hole of it if it touches at most this many clusters
     #[arg(
-        long = "hollow_neighbours",
+        long,
         alias = "hollow-neighbours",
         value_name = "COUNT",
-        default_value_t = 1,
-        allow_negative_numbers = true
+        default_value_t = 1
     )]
     pub hollow_neighbours: u32,
 
     /// A cluster can stay a patch inside another only if their colours differ by more than this
     #[arg(
-        long = "deepen_diff",
+        long,
         alias = "deepen-diff",
         value_name = "DIFFERENCE",
-        default_value_t = 64,
-        allow_negative_numbers = true
+        default_value_t = 64
     )]
     pub deepen_diff: i32,
 

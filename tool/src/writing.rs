@@ -6,7 +6,7 @@ use std::path::{Path, PathBuf};
 use std::sync::{Mutex, MutexGuard, PoisonError};
 use std::{process, thread};
 
-use signal_hook::consts::{SIGINT, SIGTERM};
+use signal_hook::consts::{SIGHUP, SIGINT, SIGTERM};
 use signal_hook::iterator::Signals;
 use signal_hook::low_level::emulate_default_handler;
 use tempfile::TempPath;
@@ -79,9 +79,11 @@ fn place_for(target: &Path) -> Result<PathBuf, Failure> {
     }
 }
 
-/// Removes what is half written when the user or the system ends the program.
+/// Removes what is half written when the user or the system ends the program, or closes its terminal.
 pub fn remove_parts_on_signals() -> io::Result<()> {
-    let mut signals = Signals::new([SIGINT, SIGTERM])?;
+    let ignored = ignored_signals();
+    let ending = [SIGHUP, SIGINT, SIGTERM].into_iter();
+    let mut signals = Signals::new(ending.filter(|signal| ignored >> (signal - 1) & 1 == 0))?;
     thread::spawn(move || {
         for signal in signals.forever() {
             // The lock is kept, so that no new part begins.
@@ -93,6 +95,16 @@ pub fn remove_parts_on_signals() -> io::Result<()> {
         }
     });
     Ok(())
+}
+
+/// The signals that the program was started to live through, as nohup does, a bit for each. Where the
+/// system does not say, none.
+fn ignored_signals() -> u64 {
+    let status = fs::read_to_string("/proc/self/status").unwrap_or_default();
+    let mut lines = status.lines();
+    let mask = lines.find_map(|line| line.strip_prefix("SigIgn:"));
+    mask.and_then(|mask| u64::from_str_radix(mask.trim(), 16).ok())
+        .unwrap_or(0)
 }
 
 fn parts() -> MutexGuard<'static, Vec<PathBuf>> {

@@ -81,18 +81,36 @@ class Check(Case):
     def test_damaged_ones(self):
         whole = self.store()
         for data, says in [
-            (b"", "s.stored: it is empty"), (whole[:7], "cut off in its first numbers"), (whole[:-1], "but its first numbers say"),
+            (b"", "it is empty"), (whole[:7], "cut off in its first numbers"), (whole[:-1], "but its first numbers say"),
             (whole + b"\0", "but its first numbers say"), (b"\0" * 8, "no pixels or no clusters"),
             (whole[:8] + b"\xff\xff" + whole[10:], "a label is 65535"), (whole[:-2] + b"\xff\xff", "an output is 65535"),
         ]:
             self.put("s.stored", data)
-            error = self.refused("check", "s.stored", "chart.png", says=says)
-            self.assertTrue(error.startswith("sheet: s.stored, chart.png: s.stored: it is "), error)
-        self.put("s.stored", png(*self.image))
-        self.refused("check", "s.stored", "chart.png", says="it is a broken stored sheet")
-        self.refused("check", "absent.stored", "chart.png", says="absent.stored: there is no such file")
+            self.refused("check", "s.stored", "chart.png", says=says, name="s.stored")
+        self.put("s.stored", whole + bytes(1 << 20))
+        self.refused("check", "s.stored", "chart.png", says="no stored sheet: it has 1 MiB or more", name="s.stored")
+        self.refused("check", "absent.stored", "chart.png", says="there is no such file", name="absent.stored")
         self.put("s.stored", whole)
-        self.refused("check", "s.stored", "absent.png", says="absent.png: there is no such file")
+        self.refused("check", "s.stored", "absent.png", says="its chart absent.png: there is no such file", name="s.stored")
+        self.put("large.png", SIGNATURE + header(300, 300))
+        self.refused("check", "s.stored", "large.png", says="refusal 3: the chart is 300 × 300", name="s.stored")
+
+    def test_files_the_wrong_way_round(self):
+        self.store()
+        says = "it is a picture. Give the stored sheet first, and then its chart."
+        self.refused("check", "chart.png", "s.stored", says=says, name="chart.png")
+        self.put("chart.pam", pam(*self.image))
+        self.refused("check", "chart.pam", "s.stored", says=says, name="chart.pam")
+        self.refused("check", "s.stored", "s.stored", says="its chart s.stored: it is neither PNG nor PAM", name="s.stored")
+
+    def test_json_of_a_failure_names_both_files(self):
+        self.store()
+        for stored, chart, refusal, error in [
+            ("absent.stored", "chart.png", None, "there is no such file"),
+            ("s.stored", "absent.png", None, "its chart absent.png: there is no such file"),
+        ]:
+            [found] = self.json("check", stored, chart, "--json", status=1)
+            self.assertEqual(found, {"stored": stored, "chart": chart, "refusal": refusal, "error": error})
 
     def test_several_pairs(self):
         whole = self.store()

@@ -93,7 +93,9 @@ class Damaged(Case):
             (pam(*CHART)[:-1], "it is a broken PAM: it is cut off before its end"),
             (pam(*CHART) + b"P7", "more bytes follow after its last pixel"),
         ]:
-            self.refused("make", "-", "s.png", says=says, name="standard input", input=data)
+            error = self.refused("make", "-", "s.png", says=says, name="standard input", input=data)
+            self.assertTrue(error.endswith(". Save or copy it anew.\n"), error)
+            self.assertNotIn("..", error)
 
     def test_a_small_size_with_enormous_data(self):
         packed = zlib.compress(bytes(200 << 20), 9)
@@ -103,7 +105,7 @@ class Damaged(Case):
     def test_enormous_notes(self):
         notes = chunk(b"tEXt", b"Title\0" + b"x" * (2 << 20))
         data = encode_png(*CHART, 8, 6, extra=notes)
-        self.refused("make", "-", "s.png", says=["more than 1 MiB of text", "save it without them"], input=data)
+        self.refused("make", "-", "s.png", says=["more than 1 MiB of text", "Save it without them."], input=data)
 
     def test_an_enormous_file(self):
         path = self.folder / "large.png"
@@ -111,5 +113,5 @@ class Damaged(Case):
         with open(path, "ab") as file:
             file.truncate(3 << 30)
         result = self.sheet("make", "large.png", "s.png", status=1)
-        self.assertIn(b"broken PNG", result.stderr)
+        self.assertIn(b"it is a PNG of 64 MiB or more", result.stderr)
         self.assertFalse((self.folder / "s.png").exists())

@@ -83,11 +83,11 @@ class Files(Case):
         error = self.refused("make", "chart.png", "s.png", says="s.png can't be written", preexec_fn=limited, restore_signals=False)
         self.assertIn("too large", error.lower())
 
-    def blocked(self):
+    def blocked(self, **options):
         """A run that has written its stored sheet beside its place, and waits to write the sheet to a full pipe."""
         self.chart("large.png", sector_chart(260, 250, 1))
         words = [SHEET, "make", "large.png", "-", "--stored", "s.stored"]
-        process = subprocess.Popen(words, cwd=self.folder, stdout=subprocess.PIPE, stderr=subprocess.PIPE)
+        process = subprocess.Popen(words, cwd=self.folder, stdout=subprocess.PIPE, stderr=subprocess.PIPE, **options)
         self.addCleanup(process.stdout.close)
         self.addCleanup(process.stderr.close)
         deadline = time.monotonic() + 30
@@ -98,11 +98,21 @@ class Files(Case):
         return process
 
     def test_signals_leave_nothing_half_written(self):
-        for number in (signal.SIGINT, signal.SIGTERM):
+        for number in (signal.SIGHUP, signal.SIGINT, signal.SIGTERM):
             process = self.blocked()
             process.send_signal(number)
             self.assertEqual(process.wait(30), -number)
             self.assertEqual(sorted(self.files()), ["chart.png", "large.png"])
+
+    def test_a_run_that_was_told_to_live_through_a_signal_does(self):
+        # As nohup and a shell's background jobs do.
+        for number in (signal.SIGHUP, signal.SIGINT):
+            process = self.blocked(preexec_fn=lambda: signal.signal(number, signal.SIG_IGN))
+            process.send_signal(number)
+            decode_pam(process.communicate(timeout=30)[0])
+            self.assertEqual(process.returncode, 0)
+            self.assertEqual(sorted(self.files()), ["chart.png", "large.png", "s.stored"])
+            (self.folder / "s.stored").unlink()
 
     def test_even_a_killed_run_leaves_nothing_under_the_name(self):
         process = self.blocked()

@@ -73,7 +73,7 @@ class Refusals(Case):
         (self.folder / "folder").mkdir()
         self.refused("make", "folder", "s.png", says="it is a folder", name="folder")
         self.put("text.png", b"a text, not a chart")
-        self.refused("make", "text.png", "s.png", says="it is neither PNG nor PAM", name="text.png")
+        self.refused("make", "text.png", "s.png", says="it is neither PNG nor PAM. Save the chart as PNG.", name="text.png")
         self.put("empty.png", b"")
         self.refused("make", "empty.png", "s.png", says="it is empty", name="empty.png")
         self.refused("make", "-", "s.png", says="it is empty", name="standard input", input=b"")

@@ -27,7 +27,7 @@ class Several(Case):
         result = self.sheet("make", *self.images, "--out-dir", "out", status=1)
         errors = sorted(result.stderr.decode().splitlines())
         self.assertEqual(len(errors), 2)
-        self.assertEqual(errors[0], "sheet: c.png: it is neither PNG nor PAM")
+        self.assertEqual(errors[0], "sheet: c.png: it is neither PNG nor PAM. Save the chart as PNG.")
         self.assertTrue(errors[1].startswith("sheet: f.png: refusal 3: "))
         made = sorted(path.name for path in (self.folder / "out").iterdir())
         self.assertEqual(made, [name for name in self.images if name not in ("c.png", "f.png")])
@@ -39,7 +39,7 @@ class Several(Case):
         self.assertEqual([line["chart"] for line in lines], list(self.images))
         for line in lines:
             if line["chart"] == "c.png":
-                self.assertEqual(line, {"chart": "c.png", "refusal": None, "error": "it is neither PNG nor PAM"})
+                self.assertEqual(line, {"chart": "c.png", "refusal": None, "error": "it is neither PNG nor PAM. Save the chart as PNG."})
                 continue
             answer = judged(self.images[line["chart"]], {})
             self.assertEqual((line["n"], line["m"]), (answer["n"], answer["m"]))
@@ -79,6 +79,10 @@ class Several(Case):
         self.sheet("make", *self.images, "--out-dir", "out", status=1)
         self.assertFalse((self.folder / "out").exists())
 
-    def test_nothing_of_a_progress_line_without_a_terminal(self):
-        result = self.sheet("make", *self.images, "--out-dir", "out", "--quiet")
-        self.assertEqual((result.stdout, result.stderr), (b"", b""))
+    def test_quietly_only_what_is_wrong_is_told(self):
+        for words in (["make", "--out-dir", "out"], ["clusters"]):
+            result = self.sheet(*words, *self.images, "--quiet")
+            self.assertEqual((result.stdout, result.stderr), (b"", b""))
+            self.misused(*words, *self.images, "--quiet", "--json", says="--json")
+            result = self.sheet(*words, "a.png", "absent.png", "-q", status=1)
+            self.assertEqual((result.stdout, result.stderr), (b"", b"sheet: absent.png: there is no such file\n"))

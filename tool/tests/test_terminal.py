@@ -51,7 +51,7 @@ class Terminal(Case):
         names = [f"{name}.png" for name in "abcdef"]
         shown = self.at_terminal("make", *names, "--out-dir", "out", status=1)
         lines = shown.replace("\r", "\n").replace("\x1b[2K", "\n").replace("\x1b[1A", "\n").splitlines()
-        self.assertIn("sheet: c.png: it is neither PNG nor PAM", lines)
+        self.assertIn("sheet: c.png: it is neither PNG nor PAM. Save the chart as PNG.", lines)
 
     def test_one_chart_needs_no_progress_line(self):
         shown = self.at_terminal("make", "a.png", "s.png")

@@ -15,10 +15,10 @@ use Rattle.rules.specs.Stage2.{areasOf, neighbours, isolated, visit, pas
 use Rattle.rules.specs.Ledger.{Held, enter, ledger}
 use Rattle.rules.specs.Claim.{bit, occurs, countOf, Stands}
 use Rattle.rules.proofs.Owned.{owned}
-use Rattle.rules.proofs.Facts.{is-true, T-dec, T-bit, bit-T, eqb-yes, eqb-no, countOf-one, occurs-append, countOf-bound}
+use Rattle.rules.proofs.Facts.{is-true, T-dec, T-bit, bit-T, eqb-yes, eqb-no, countOf-one, countOf-lt, occurs-append, countOf-bound}
 use Rattle.rules.proofs.Forest.{Inside, inside-not}
 use Rattle.rules.proofs.Basic.{Basic, Moved, three, merge-moved, deepen-f, deepen-moved, lab-from, lab-other, plain-down, plain-o, deepened-o}
-use Rattle.rules.proofs.Visits.{Going, pass-going, All, insert-all, Near, visit-cases, visit-going, times-keep}
+use Rattle.rules.proofs.Visits.{Going, pass-going, All, insert-all, Near, neighbours-near, visit-cases, visit-going, times-keep}
 use Rattle.rules.proofs.Visits.{stands, root, mine, target-stands, target-root, k≢t, k-slot, t-slot, merge-going, deepen-going}
 use Rattle.rules.proofs.Painting.{First}
 use Rattle.rules.proofs.Connected.{covers}
@@ -529,3 +529,25 @@ areas-le size (c ∷ cs) l b a = areas-le size cs (if eqb (area c) 0 then l else
     pick : (q : Bool) → All (λ x. x ≤ size) (if q then l else insert (area c) l)
     pick true = a
     pick false = insert-all (λ x. x ≤ size) (area c) l (b 0) a
+
+-- a cluster of all pixels has no neighbour
+pub whole-alone : (o : RunnerConfig) (w h : ℕ) {image : List ℕ} (a k : ℕ) (s : State) → Going image (w * h) a k s → 0 < a → area (cluster s k) ≡ a → a ≡ w * h → neighbours w h s k ≡ []
+whole-alone o w h a k s G pos e whole = go (neighbours w h s k) (neighbours-near o w h s k)
+  where
+    held : (p : ℕ) → p < w * h → T (ledger (s .log) k p)
+    held p l = pick (T-dec (ledger (s .log) k p))
+      where
+        pick : Dec (T (ledger (s .log) k p)) → T (ledger (s .log) k p)
+        pick (yes x) = x
+        pick (no x) = absurd (omega (
+          arith,
+          area-countOf (G .sound .basic) k,
+          countOf-lt (ledger (s .log) k) (λ q. true) (λ q z. tt) (w * h) p l tt x,
+          countOf-bound (λ q. true) (w * h),
+        ))
+
+    go : (ts : List ℕ) → All (Near s (label s (getD (cluster s k .pixels) 0 0))) ts → ts ≡ []
+    go [] N = refl
+    go (t ∷ ts) N =
+        let H = target-stands a k s G pos e t (N .0) in
+        absurd (N .0 .1 (sym (G .sound .tops t (H .0) (H .1) (target-root a k s G pos e t (N .0))) ∙ G .sound .tops k (H .0) (held (H .0) (omega (arith, G .sound .basic .width, G .sound .basic .places t (H .0) (H .1)))) (root a k s G pos e) ∙ sym (mine a k s G pos e)))

@@ -1,22 +1,21 @@
--- The pixels beside the one at column x, row y.
+-- The pixel at column x, row y, and the pixels beside it.
 use mathlib.Core.Path.{_≡_, refl, sym, ap, _∙_}
 use mathlib.Core.Bool.{Bool, true, false}
 use mathlib.Core.List.{List}
 use mathlib.Core.Option.{Option, none, some}
-use Prim.Native.Nat.{ℕ, suc, _+_, _-_, _*_, _/_, _%_, _≤_, _<_}
-use native.Mathlib.Nat.{mul-comm, mul-suc, mul-add-mod-self-left, mul-add-div, mod-eq-of-lt, div-eq-of-lt, lt-div-mul-add, mul-le-mul-left, mod-le, le-mul-of-pos-right}
+use Prim.Native.Nat.{ℕ, _+_, _-_, _*_, _/_, _%_, _≤_, _<_}
+use native.Mathlib.Nat.{mul-comm, mul-add-mod-self-left, mul-add-div, mod-eq-of-lt, mod-eq-sub-mod, div-eq-of-lt, lt-div-mul-add, mul-le-mul-left, mod-le, le-mul-of-pos-right}
 use native.Mathlib.Decide.{decLt}
 use native.Mathlib.Omega.{arith}
-use borrow.Author.Tests.{ltb-true, leb-true, lt-ltb, le-ltb, le-leb, lt-leb}
+use borrow.Author.Tests.{lt-ltb, le-ltb, le-leb, lt-leb, ltb-true, leb-true}
 use lib.Dec.{ltb, leb}
 use lib.ListN.{length}
 use Rattle.rules.specs.Base.{if_then_else_}
-use Rattle.rules.specs.Color.{RunnerConfig, pixel, pixelAt}
+use Rattle.rules.specs.Color.{Color, RunnerConfig, pixel}
 use Rattle.rules.specs.Grid.{up, left, upLeft}
-use Rattle.rules.specs.State.{State, label}
-use Rattle.rules.specs.Stage1.{colorAt, labelAt}
+use Rattle.rules.specs.Stage1.{colorAt}
 use Rattle.rules.proofs.Early.{Earlier}
-use Rattle.runner.specs.Stage1.{Given, Spot}
+use Rattle.runner.specs.Stage1.{Given, Spot, At}
 use Rattle.runner.proofs.Places.{place-in}
 
 -- a pixel of the image is in one of its rows
@@ -37,38 +36,6 @@ module _ {w h i x y : ℕ} (S : Spot w h i x y) where
   pub spot-in : i < w * h
   spot-in = omega (arith, S .index, place-in w h x y (S .column) (S .row), mul-comm w y)
 
-  pub spot-left : 0 < x → Spot w h (i - 1) (x - 1) y
-  spot-left l = record { index = omega (arith, S .index); column = omega (arith, S .column); row = S .row }
-
-  -- the row above begins w pixels before
-  row-above : 0 < y → w * y ≡ w * (y - 1) + w
-  row-above l = let e : y ≡ suc (y - 1) = omega arith in ap (λ m. w * m) e ∙ mul-suc w (y - 1)
-
-  pub spot-up : 0 < y → Spot w h (i - w) x (y - 1)
-  spot-up l = record { index = omega (arith, S .index, row-above l); column = S .column; row = omega (arith, S .row) }
-
-  above : 0 < y → w ≤ i
-  above l = omega (arith, S .index, row-above l)
-
-  first-row : y ≡ 0 → i < w
-  first-row e = omega (arith, S .index, S .column, ap (λ m. w * m) e)
-
-  left-is : 0 < x → left w i ≡ some (i - 1)
-  unfolding left
-  left-is l = ap (λ b. if b then some (i - 1) else none) (lt-ltb 0 (i % w) (omega (arith, spot-column)))
-
-  pub left-none : x ≡ 0 → left w i ≡ none
-  unfolding left
-  left-none e = ap (λ b. if b then some (i - 1) else none) (le-ltb 0 (i % w) (omega (arith, spot-column)))
-
-  up-is : 0 < y → up w i ≡ some (i - w)
-  unfolding up
-  up-is l = ap (λ b. if b then some (i - w) else none) (le-leb w i (above l))
-
-  pub up-none : y ≡ 0 → up w i ≡ none
-  unfolding up
-  up-none e = ap (λ b. if b then some (i - w) else none) (lt-leb w i (first-row e))
-
   -- left and up come before
   pub left-earlier : Earlier i (left w i)
   unfolding left
@@ -86,60 +53,26 @@ module _ {w h i x y : ℕ} (S : Spot w h i x y) where
       pick true e = omega (arith, leb-true w i e, S .column)
       pick false e = tt
 
-  upLeft-by : (b : Bool) → leb w i ≡ b → upLeft w i ≡ (if ltb 0 (i % w) then (if b then some (i - w - 1) else none) else none)
-  unfolding upLeft
-  upLeft-by b e = ap (λ c. if ltb 0 (i % w) then (if c then some (i - w - 1) else none) else none) e
-
-  -- ---- the colours there
-
-  module _ (image : List ℕ) (whole : length image ≡ 4 * (w * h)) where
-    pub center-color : pixelAt image w h x y ≡ colorAt image (some i)
-    unfolding pixelAt colorAt
-    center-color =
-        let n : 4 * (w * y + x) + 4 ≤ length image = omega (arith, S .index, spot-in) in
-        rw (lt-ltb x w (S .column), lt-ltb y h (S .row), le-leb (4 * (w * y + x) + 4) (length image) n) (ap (λ m. some (pixel image m)) (sym (S .index)))
-
-module _ {w h i x y : ℕ} (S : Spot w h i x y) (image : List ℕ) (whole : length image ≡ 4 * (w * h)) where
-  pub left-color : 0 < x → pixelAt image w h (x - 1) y ≡ colorAt image (left w i)
-  left-color l = center-color (spot-left S l) image whole ∙ ap (colorAt image) (sym (left-is S l))
-
-  pub up-color : 0 < y → pixelAt image w h x (y - 1) ≡ colorAt image (up w i)
-  up-color l = center-color (spot-up S l) image whole ∙ ap (colorAt image) (sym (up-is S l))
-
-  pub upLeft-color : 0 < y → colorAt image (left w (i - w)) ≡ colorAt image (upLeft w i)
-  unfolding left
-  upLeft-color l =
-      ap (λ m. colorAt image (if ltb 0 m then some (i - w - 1) else none)) (spot-column (spot-up S l) ∙ sym (spot-column S)) ∙ ap (colorAt image) (sym (upLeft-by S true (le-leb w i (above S l))))
-
-module _ {w h i x y : ℕ} (S : Spot w h i x y) (image : List ℕ) where
-  pub left-off : x ≡ 0 → none ≡ colorAt image (left w i)
-  unfolding colorAt
-  left-off e = ap (colorAt image) (sym (left-none S e))
-
-  pub up-off : y ≡ 0 → none ≡ colorAt image (up w i)
-  unfolding colorAt
-  up-off e = ap (colorAt image) (sym (up-none S e))
-
-  pub upLeft-off : y ≡ 0 → none ≡ colorAt image (upLeft w i)
-  unfolding colorAt
-  upLeft-off e = ap (colorAt image) (sym (upLeft-by S false (lt-leb w i (first-row S e)) ∙ pick (ltb 0 (i % w))))
-    where
-      pick : (b : Bool) → _≡_ {A = Option ℕ} (if b then (if false then some (i - w - 1) else none) else none) none
-      pick true = refl
-      pick false = refl
-
--- a column and a row are small
 module _ {o : RunnerConfig} {w h : ℕ} {image : List ℕ} {shift i x y : ℕ} (G : Given o w h image shift) (S : Spot w h i x y) where
+  -- a column and a row are small
   pub near-column : x < 2000000
   near-column = omega (arith, S .column, le-mul-of-pos-right w (G .rows), G .small)
 
   pub near-row : y < 2000000
   near-row = omega (arith, S .row, le-mul-of-pos-right h (G .columns), mul-comm w h, G .small)
 
--- ---- the labels there
+  -- the pixel's bytes are there
+  pub spot-at : At w i x y (length image)
+  spot-at = record { columns = G .columns; column = sym (spot-column S); row = sym (spot-row S); inside = omega (arith, G .whole, spot-in S) }
+
+-- a colour of the image, as the rules read it
+pub color-there : (image : List ℕ) (i : ℕ) {c : Color} → c ≡ pixel image i → some c ≡ colorAt image (some i)
+unfolding colorAt
+color-there image i e = ap some e
+
+-- ---- the places beside pixel i, by its column and row
 
 module _ (w i : ℕ) where
-  -- the rows of pixels
   pub first-row-in : 0 < w → i / w ≡ 0 → i < w
   first-row-in l e = omega (arith, lt-div-mul-add {a = i} l, ap (λ m. m * w) e)
 
@@ -150,19 +83,32 @@ module _ (w i : ℕ) where
       go (yes a) = absurd (omega (arith, div-eq-of-lt a))
       go (no a) = omega arith
 
-  module _ (s : State) where
-    pub up-label-none : i < w → 0 ≡ labelAt s (up w i)
-    unfolding up labelAt
-    up-label-none l = ap (λ b. labelAt s (if b then some (i - w) else none)) (sym (lt-leb w i l))
+  pub left-none : i % w ≡ 0 → left w i ≡ none
+  unfolding left
+  left-none e = ap (λ b. if b then some (i - 1) else none) (le-ltb 0 (i % w) (omega arith))
 
-    pub up-label-some : w ≤ i → label s (i - w) ≡ labelAt s (up w i)
-    unfolding up labelAt
-    up-label-some l = ap (λ b. labelAt s (if b then some (i - w) else none)) (sym (le-leb w i l))
+  pub left-some : 0 < i % w → left w i ≡ some (i - 1)
+  unfolding left
+  left-some l = ap (λ b. if b then some (i - 1) else none) (lt-ltb 0 (i % w) l)
 
-    pub left-label-none : i % w ≡ 0 → 0 ≡ labelAt s (left w i)
-    unfolding left labelAt
-    left-label-none e = ap (λ b. labelAt s (if b then some (i - 1) else none)) (sym (le-ltb 0 (i % w) (omega arith)))
+  pub up-none : i < w → up w i ≡ none
+  unfolding up
+  up-none l = ap (λ b. if b then some (i - w) else none) (lt-leb w i l)
 
-    pub left-label-some : 0 < i % w → label s (i - 1) ≡ labelAt s (left w i)
-    unfolding left labelAt
-    left-label-some l = ap (λ b. labelAt s (if b then some (i - 1) else none)) (sym (lt-ltb 0 (i % w) l))
+  pub up-some : w ≤ i → up w i ≡ some (i - w)
+  unfolding up
+  up-some l = ap (λ b. if b then some (i - w) else none) (le-leb w i l)
+
+  pub upLeft-none : i < w → upLeft w i ≡ none
+  unfolding upLeft
+  upLeft-none l = ap (λ c. if ltb 0 (i % w) then (if c then some (i - w - 1) else none) else none) (lt-leb w i l) ∙ pick (ltb 0 (i % w))
+    where
+      pick : (b : Bool) → _≡_ {A = Option ℕ} (if b then none else none) none
+      pick true = refl
+      pick false = refl
+
+  -- up and left is left of the pixel above
+  pub upLeft-some : w ≤ i → upLeft w i ≡ left w (i - w)
+  unfolding upLeft left
+  upLeft-some l =
+      ap (λ c. if ltb 0 (i % w) then (if c then some (i - w - 1) else none) else none) (le-leb w i l) ∙ ap (λ m. if ltb 0 m then some (i - w - 1) else none) (mod-eq-sub-mod {n = i} {m = w} l)

@@ -3,17 +3,18 @@ use mathlib.Core.Path.{_≡_, refl, sym, ap, ap₂, _∙_, subst}
 use mathlib.Core.Logic.{_⊎_, inl, inr}
 use mathlib.Core.Bool.{Bool, true, false, _&&_}
 use mathlib.Core.List.{List}
-use Prim.Native.Nat.{ℕ, zero, suc, _+_, _*_, _-_, _/_, _≤_, _<_}
+use Prim.Native.Nat.{ℕ, zero, suc, _+_, _*_, _-_, _/_, _%_, _≤_, _<_}
 use native.Mathlib.Decide.{ℕ-discrete, decLt}
 use native.Mathlib.Omega.{arith}
 use lib.Dec.{ltb, eqb}
 use lib.ListN.{length, getD, set, length-set}
 use lib.Seq.{getD-set-same, getD-set-other, set-getD}
-use borrow.Author.Tests.{ltb-true, ltb-false, eqb-true, le-leb, lt-leb}
+use borrow.Author.Tests.{ltb-true, ltb-false, lt-ltb, le-ltb, eqb-true, eqb-false, le-leb, lt-leb}
 use Rattle.rules.specs.Base.{if_then_else_}
 use Rattle.rules.proofs.Facts.{both-true}
 use Rattle.runner.specs.declared.queue.Entry.{Entry}
-use Rattle.runner.specs.Queue.{Sized, leaf, node, entryAt, firstOf, firstBelow, Tree, refreshed, First}
+use Rattle.runner.specs.declared.queue.Taken.{Taken}
+use Rattle.runner.specs.Queue.{Sized, leaf, node, entryAt, rankOf, firstOf, besideOf, holding, firstBelow, Tree, refreshed, Refreshed, First}
 
 -- ---- the order of entries
 
@@ -50,7 +51,66 @@ first-of a b = keys (ltb (a .key) (b .key)) refl
     keys true e = (before-refl a, inl (ltb-true (a .key) (b .key) e), inl refl)
     keys false e = other (ltb (b .key) (a .key)) refl (ltb-false (a .key) (b .key) e)
 
+before-antisym : (a b : Entry) → Before a b → Before b a → a ≡ b
+before-antisym a b (inl x) (inl y) = absurd (omega arith)
+before-antisym a b (inl x) (inr y) = absurd (omega (arith, y .0))
+before-antisym a b (inr x) (inl y) = absurd (omega (arith, x .0))
+before-antisym a b (inr x) (inr y) = ap₂ (λ k s. record { key = k; slot = s }) (x .0) (let z : a .slot ≡ b .slot = omega (arith, x .1, y .1) in z)
+
+-- which of two entries stands first in the tree does not matter
+first-either : (a b : Entry) → firstOf a b ≡ firstOf b a
+first-either a b = before-antisym (firstOf a b) (firstOf b a) (come (firstOf a b) b a (F .1) (F .0) (G .2)) (come (firstOf b a) a b (G .1) (G .0) (F .2))
+  where
+    F : Chosen a b (firstOf a b)
+    F = first-of a b
+
+    G : Chosen b a (firstOf b a)
+    G = first-of b a
+
+    come : (c x y : Entry) → Before c x → Before c y → {d : Entry} → (d ≡ x) ⊎ (d ≡ y) → Before c d
+    come c x y p q (inl e) = subst (Before c) (sym e) p
+    come c x y p q (inr e) = subst (Before c) (sym e) q
+
+-- the first of two entries, by their ranks
+module _ (a b : Entry) (la : a .slot < 4294967296) (lb : b .slot < 4294967296) where
+  pub rank-before : rankOf a < rankOf b → a ≡ firstOf a b
+  unfolding firstOf
+  rank-before l = go (decLt (a .key) (b .key))
+    where
+      go : Dec (a .key < b .key) → a ≡ (if ltb (a .key) (b .key) then a else if ltb (b .key) (a .key) then b else if ltb (a .slot) (b .slot) then a else b)
+      go (yes y) = rw (lt-ltb (a .key) (b .key) y)
+      go (no y) = rw (le-ltb (a .key) (b .key) (omega arith), le-ltb (b .key) (a .key) (omega arith), lt-ltb (a .slot) (b .slot) (omega arith))
+
+  pub rank-after : rankOf b ≤ rankOf a → b ≡ firstOf a b
+  unfolding firstOf
+  rank-after l = go (decLt (b .key) (a .key))
+    where
+      go : Dec (b .key < a .key) → b ≡ (if ltb (a .key) (b .key) then a else if ltb (b .key) (a .key) then b else if ltb (a .slot) (b .slot) then a else b)
+      go (yes y) = rw (le-ltb (a .key) (b .key) (omega arith), lt-ltb (b .key) (a .key) y)
+      go (no y) = rw (le-ltb (a .key) (b .key) (omega arith), le-ltb (b .key) (a .key) (omega arith), le-ltb (a .slot) (b .slot) (omega arith))
+
 -- ---- positions
+
+-- the position beside x is in the tree
+pub beside-in : (n x : ℕ) → 1 < x → x < 2 * n → besideOf x < 2 * n
+beside-in n x l b = go (eqb (x % 2) 0) refl
+  where
+    go : (t : Bool) → eqb (x % 2) 0 ≡ t → (if t then x + 1 else x - 1) < 2 * n
+    go true e = omega (arith, eqb-true (x % 2) 0 e)
+    go false e = omega arith
+
+-- an entry and the one beside it are the children of the node above
+pub first-beside : (queue : List ℕ) (n room x : ℕ) → firstOf (entryAt queue n room x) (entryAt queue n room (besideOf x)) ≡ firstBelow queue n room (x / 2)
+first-beside queue n room x = go (eqb (x % 2) 0) refl
+  where
+    go : (t : Bool) → eqb (x % 2) 0 ≡ t → firstOf (entryAt queue n room x) (entryAt queue n room (if t then x + 1 else x - 1)) ≡ firstBelow queue n room (x / 2)
+    go true e =
+        let z : x ≡ 2 * (x / 2) = omega (arith, eqb-true (x % 2) 0 e) in
+        ap (λ y. firstOf (entryAt queue n room y) (entryAt queue n room (y + 1))) z
+    go false e =
+        let z : x - 1 ≡ 2 * (x / 2) = omega (arith, eqb-false (x % 2) 0 e) in
+        let y : x ≡ 2 * (x / 2) + 1 = omega (arith, eqb-false (x % 2) 0 e) in
+        first-either (entryAt queue n room x) (entryAt queue n room (x - 1)) ∙ ap₂ (λ i j. firstOf (entryAt queue n room i) (entryAt queue n room j)) z y
 
 module _ (queue : List ℕ) (n room x : ℕ) where
   pub at-leaf : n ≤ x → entryAt queue n room x ≡ leaf queue (x - n)
@@ -175,20 +235,19 @@ module _ (queue : List ℕ) (n room : ℕ) (S : Sized n room (length queue)) (j 
       go (yes e) = subst (λ y. entryAt (refreshed queue n room j) n room y ≡ firstBelow queue n room y) (sym e) made-node ∙ sym below
       go (no e) = made-other i (omega arith) e ∙ h e ∙ sym below
 
--- ---- the stores of one node
+-- ---- the store of one node
 
 module _ (queue : List ℕ) (n room j : ℕ) (e : Entry) (is : e ≡ firstBelow queue n room j) where
-  pub stored-node : set (set queue (room + 2 * j) (e .key)) (room + 2 * j + 1) (e .slot) ≡ refreshed queue n room j
+  pub held-node : holding queue room j e ≡ refreshed queue n room j
   unfolding refreshed
-  stored-node = ap (λ x. set (set queue (room + 2 * j) (x .key)) (room + 2 * j + 1) (x .slot)) is
+  held-node = ap (holding queue room j) is
 
   -- a node that holds it already needs no store
-  pub kept-node : (eqb (getD queue (room + 2 * j) 0) (e .key) && eqb (getD queue (room + 2 * j + 1) 0) (e .slot)) ≡ true → queue ≡ refreshed queue n room j
-  kept-node t =
-      let b = both-true (eqb (getD queue (room + 2 * j) 0) (e .key)) (eqb (getD queue (room + 2 * j + 1) 0) (e .slot)) t in
-      sym (set-getD queue (room + 2 * j + 1) 0)
-      ∙ ap₂ (λ q v. set q (room + 2 * j + 1) v) (sym (set-getD queue (room + 2 * j) 0) ∙ ap (set queue (room + 2 * j)) (eqb-true (getD queue (room + 2 * j) 0) (e .key) (b .0))) (eqb-true (getD queue (room + 2 * j + 1) 0) (e .slot) (b .1))
-      ∙ stored-node
+  pub kept-node : j < n → (old : Entry) → old ≡ entryAt queue n room j → (eqb (old .key) (e .key) && eqb (old .slot) (e .slot)) ≡ true → queue ≡ refreshed queue n room j
+  kept-node l old at t =
+      let b = both-true (eqb (old .key) (e .key)) (eqb (old .slot) (e .slot)) t in
+      let z : node queue room j ≡ e = sym (at-node queue n room j l) ∙ sym at ∙ ap₂ (λ k s. record { key = k; slot = s }) (eqb-true (old .key) (e .key) (b .0)) (eqb-true (old .slot) (e .slot) (b .1)) in
+      sym (set-getD queue (room + 2 * j + 1) 0) ∙ ap (λ q. set q (room + 2 * j + 1) (getD queue (room + 2 * j + 1) 0)) (sym (set-getD queue (room + 2 * j) 0)) ∙ ap (holding queue room j) z ∙ held-node
 
 -- ---- a changed key
 
@@ -196,21 +255,23 @@ module _ (queue : List ℕ) (n room j : ℕ) (e : Entry) (is : e ≡ firstBelow 
 abbrev pub But : List ℕ → ℕ → ℕ → ℕ → Type 0
 But queue n room j = (i : ℕ) → 1 ≤ i → i < n → (i ≡ j → ⊥) → entryAt queue n room i ≡ firstBelow queue n room i
 
--- on the way up from a changed key: only node j may not hold the first of its children
-pub record Climbing (queue₀ queue : List ℕ) (n room j : ℕ) : Type 0 where
+-- on the way up from a changed key: e stands at position x, and only the node above it may not hold the first of its children
+pub record Climbing (queue₀ queue : List ℕ) (n room x : ℕ) (e : Entry) : Type 0 where
   pub sized : Sized n room (length queue)
   pub long : length queue ≡ length queue₀
-  pub inside : j < n
-  pub but : But queue n room j
-  pub keys : (x : ℕ) → x < room → getD queue x 0 ≡ getD queue₀ x 0
+  pub inside : x < 2 * n
+  pub stands : e ≡ entryAt queue n room x
+  pub but : But queue n room (x / 2)
+  pub keys : (y : ℕ) → y < room → getD queue y 0 ≡ getD queue₀ y 0
 
 -- a new key breaks at most the node above it
-pub climb-start : (queue : List ℕ) (n room k v : ℕ) → Sized n room (length queue) → k < n → Tree queue n room → Climbing (set queue k v) (set queue k v) n room ((n + k) / 2)
+pub climb-start : (queue : List ℕ) (n room k v : ℕ) → Sized n room (length queue) → k < n → Tree queue n room → Climbing (set queue k v) (set queue k v) n room (n + k) (record { key = v; slot = k })
 unfolding Tree
 climb-start queue n room k v S b H = record {
   sized = subst (Sized n room) (sym (length-set queue k v)) S;
   long = refl;
   inside = omega arith;
+  stands = sym (at-leaf (set queue k v) n room (n + k) (omega arith) ∙ ap (leaf (set queue k v)) (let z : n + k - n ≡ k = omega arith in z) ∙ ap (λ y. record { key = y; slot = k }) (getD-set-same queue k v 0 (omega (arith, S .within, S .fits))));
   but = λ i p q d. same i (omega arith) (omega arith) ∙ H i p q ∙ sym (ap₂ firstOf (same (2 * i) (omega arith) (λ e. d (omega arith))) (same (2 * i + 1) (omega arith) (λ e. d (omega arith))));
   keys = λ x l. refl;
 }
@@ -228,34 +289,33 @@ climb-start queue n room k v S b H = record {
             ∙ ap (λ k. record { key = k; slot = x - n }) (getD-set-other queue k (x - n) v 0 (λ e. d (omega arith)))
             ∙ sym (at-leaf queue n room x (omega arith))
 
-module _ (queue₀ queue next : List ℕ) (n room j : ℕ) (C : Climbing queue₀ queue n room j) (pos : 0 < j) (e : next ≡ refreshed queue n room j) where
+module _ (queue₀ queue next : List ℕ) (n room x : ℕ) (e : Entry) (C : Climbing queue₀ queue n room x e) (l : 1 < x) (t : Taken) (R : Refreshed queue next n room (x / 2) t) where
+  above-in : x / 2 < n
+  above-in = omega (arith, C .inside)
+
   -- a node made from its children leaves at most the node above it
-  pub climb-up : Climbing queue₀ next n room (j / 2)
-  climb-up = subst (λ q. Climbing queue₀ q n room (j / 2)) (sym e) (record {
-    sized = subst (Sized n room) (sym (made-length queue n room (C .sized) j (C .inside))) (C .sized);
-    long = made-length queue n room (C .sized) j (C .inside) ∙ C .long;
+  pub climb-up : Climbing queue₀ next n room (x / 2) (t .entry)
+  climb-up = subst (λ q. Climbing queue₀ q n room (x / 2) (t .entry)) (sym (R .made)) (record {
+    sized = subst (Sized n room) (sym (made-length queue n room (C .sized) (x / 2) above-in)) (C .sized);
+    long = made-length queue n room (C .sized) (x / 2) above-in ∙ C .long;
     inside = omega (arith, C .inside);
-    but = λ i p q d. made-holds queue n room (C .sized) j (C .inside) i p q d (C .but i p q);
-    keys = λ x l. made-keys queue n room (C .sized) j (C .inside) x l ∙ C .keys x l;
+    stands = R .first ∙ sym (made-node queue n room (C .sized) (x / 2) above-in);
+    but = λ i p q d. made-holds queue n room (C .sized) (x / 2) above-in i p q d (C .but i p q);
+    keys = λ y b. made-keys queue n room (C .sized) (x / 2) above-in y b ∙ C .keys y b;
   })
 
   -- where the node is as it was, nothing is left to do
-  pub climb-stop : next ≡ queue → Climbing queue₀ next n room 0
-  climb-stop same = record {
-    sized = climb-up .sized;
-    long = climb-up .long;
-    inside = omega (arith, C .inside);
-    but = λ i p q d. go i p q (ℕ-discrete i (j / 2));
-    keys = climb-up .keys;
-  }
+  pub climb-stop : t .changed ≡ false → Tree next n room
+  unfolding Tree
+  climb-stop z i p q = go (ℕ-discrete i (x / 2 / 2))
     where
-      go : (i : ℕ) → 1 ≤ i → i < n → Dec (i ≡ j / 2) → entryAt next n room i ≡ firstBelow next n room i
-      go i p q (no d) = climb-up .but i p q d
-      go i p q (yes z) = subst (λ y. entryAt y n room i ≡ firstBelow y n room i) (sym same) (C .but i p q (λ x. omega arith))
+      go : Dec (i ≡ x / 2 / 2) → entryAt next n room i ≡ firstBelow next n room i
+      go (no d) = climb-up .but i p q d
+      go (yes y) = subst (λ g. entryAt g n room i ≡ firstBelow g n room i) (sym (R .kept z)) (C .but i p q (λ u. omega arith))
 
-pub climb-end : (queue₀ queue : List ℕ) (n room j : ℕ) → j ≤ 0 → Climbing queue₀ queue n room j → Tree queue n room
+pub climb-end : (queue₀ queue : List ℕ) (n room x : ℕ) (e : Entry) → x ≤ 1 → Climbing queue₀ queue n room x e → Tree queue n room
 unfolding Tree
-climb-end queue₀ queue n room j z C i p q = C .but i p q (λ e. omega arith)
+climb-end queue₀ queue n room x e z C i p q = C .but i p q (λ u. omega arith)
 
 -- ---- the whole tree
 

@@ -17,6 +17,7 @@ use Rattle.rules.specs.Order.{Queue, target, rekey, largest}
 use Rattle.rules.proofs.Basic.{Moved, merge-moved, deepen-moved}
 use Rattle.rules.proofs.Visits.{All, Near, least-all, neighbours-near}
 use Rattle.rules.proofs.Visits as visits
+use Rattle.rules.proofs.Outputs.{whole-alone}
 use Rattle.rules.proofs.Largest.{merge-largest, deepen-largest}
 use Rattle.rules.proofs.Order.{turns-few, rekey-still, rekey-moved}
 use Rattle.runner.specs.declared.stage2.Turns.{Turns}
@@ -161,6 +162,19 @@ module _ {o : RunnerConfig} {w h : ℕ} {image t₀ L K B W : List ℕ} {t : Tur
   visit-decides : a ≤ o .hierarchical → visitAt o w h image (t .turns) k ≡ decide o w h (area (cluster (queueAt o w h image (t .turns) .now) k)) k (neighbours w h (queueAt o w h image (t .turns) .now) k) (queueAt o w h image (t .turns) .now)
   visit-decides l = moment .ready .visits ∙ ap (λ b. if b then put k s else decide o w h (area (cluster s k)) k (neighbours w h s k) s) (le-ltb (o .hierarchical) (area (cluster s k)) (omega (arith, X .chosen .count)))
 
+  -- no neighbour
+  visit-isolated : a ≤ o .hierarchical → neighbours w h (queueAt o w h image (t .turns) .now) k ≡ [] → visitAt o w h image (t .turns) k
+      ≡ (if goesOut o (t .largest) a then put k (queueAt o w h image (t .turns) .now) else queueAt o w h image (t .turns) .now)
+  unfolding decide isolated
+  visit-isolated low none =
+      visit-decides low ∙ ap (λ ns. decide o w h (area (cluster s k)) k ns s) none
+      ∙ ap (λ b. if b || discards o then put k s else s) (moment .ready .none-larger ∙ ap₂ leb (sym (X .top)) (sym (X .chosen .count)))
+
+  -- all pixels
+  pub visit-whole : a ≤ o .hierarchical → a ≡ w * h → visitAt o w h image (t .turns) k
+      ≡ (if goesOut o (t .largest) a then put k (queueAt o w h image (t .turns) .now) else queueAt o w h image (t .turns) .now)
+  visit-whole low e = visit-isolated low (whole-alone o w h (area (cluster s k)) k s (going moment) (some-pixels moment) refl (sym (X .chosen .count) ∙ e))
+
   -- ---- the scan
 
   pub visit-scans : marks ≤ t .turns → Scannable L K B (marksPart (w * h + 1) W) w h k (t .turns + 1)
@@ -181,16 +195,10 @@ module _ {o : RunnerConfig} {w h : ℕ} {image t₀ L K B W : List ℕ} {t : Tur
     pub aims : 0 < near .count → Aimed o w h image (t .turns) k near
     aims z = record { low = omega (arith, X .chosen .count); nearest = found ∙ nearest-is moment (X .carried .rep) (X .table-fits); some = z }
 
-    -- no neighbour
+    -- no neighbour was found
     pub visit-alone : near .count ≡ 0 → visitAt o w h image (t .turns) k
         ≡ (if goesOut o (t .largest) a then put k (queueAt o w h image (t .turns) .now) else queueAt o w h image (t .turns) .now)
-    unfolding decide isolated
-    visit-alone z =
-        visit-decides low ∙ ap (λ ns. decide o w h (area (cluster s k)) k ns s) none
-        ∙ ap (λ b. if b || discards o then put k s else s) (moment .ready .none-larger ∙ ap₂ leb (sym (X .top)) (sym (X .chosen .count)))
-      where
-        none : neighbours w h (queueAt o w h image (t .turns) .now) k ≡ []
-        none = none-near (rank s k) (neighbours w h s k) (ap (λ r. r .count) (sym (found ∙ nearest-is moment (X .carried .rep) (X .table-fits))) ∙ z)
+    visit-alone z = visit-isolated low (none-near (rank s k) (neighbours w h s k) (ap (λ r. r .count) (sym (found ∙ nearest-is moment (X .carried .rep) (X .table-fits))) ∙ z))
 
   -- ---- the target
 

@@ -2,13 +2,14 @@
 -- for each node. Leaf k is position n + k of the tree, the children of node j are positions 2j and 2j + 1, and the root is position 1.
 use mathlib.Core.Path.{_≡_}
 use mathlib.Core.Logic.{_⊎_}
-use mathlib.Core.Bool.{Bool, false}
+use mathlib.Core.Bool.{false}
 use mathlib.Core.List.{List}
-use Prim.Native.Nat.{ℕ, zero, suc, _+_, _*_, _-_, _≤_, _<_}
-use lib.Dec.{leb, ltb}
+use Prim.Native.Nat.{ℕ, zero, suc, _+_, _*_, _-_, _%_, _≤_, _<_}
+use lib.Dec.{leb, ltb, eqb}
 use lib.ListN.{length, getD, set}
 use Rattle.rules.specs.Base.{if_then_else_}
 use Rattle.runner.specs.declared.queue.Entry.{Entry}
+use Rattle.runner.specs.declared.queue.Taken.{Taken}
 
 -- n slots in a list of `long` numbers that has room for more; slots fit their type
 pub record Sized (n room long : ℕ) : Type 0 where
@@ -29,9 +30,17 @@ node queue room j = record { key = getD queue (room + 2 * j) 0; slot = getD queu
 unfoldable pub entryAt : List ℕ → ℕ → ℕ → ℕ → Entry
 entryAt queue n room x = if leb n x then leaf queue (x - n) else node queue room x
 
+-- entries in the order of keys and then of slots, as numbers
+abbrev pub rankOf : Entry → ℕ
+rankOf e = 4294967296 * e .key + e .slot
+
 -- the smaller key, of equal keys the smaller slot
 unfoldable pub firstOf : Entry → Entry → Entry
 firstOf a b = if ltb (a .key) (b .key) then a else if ltb (b .key) (a .key) then b else if ltb (a .slot) (b .slot) then a else b
+
+-- the other child of the node above position x
+abbrev pub besideOf : ℕ → ℕ
+besideOf x = if eqb (x % 2) 0 then x + 1 else x - 1
 
 -- the first of the children of node j
 abbrev pub firstBelow : List ℕ → ℕ → ℕ → ℕ → Entry
@@ -41,14 +50,19 @@ firstBelow queue n room j = firstOf (entryAt queue n room (2 * j)) (entryAt queu
 unfoldable pub Tree : List ℕ → ℕ → ℕ → Type 0
 Tree queue n room = (j : ℕ) → 1 ≤ j → j < n → entryAt queue n room j ≡ firstBelow queue n room j
 
+-- node j made to hold e
+abbrev pub holding : List ℕ → ℕ → ℕ → Entry → List ℕ
+holding queue room j e = set (set queue (room + 2 * j) (e .key)) (room + 2 * j + 1) (e .slot)
+
 -- node j made from its children
 unfoldable pub refreshed : List ℕ → ℕ → ℕ → ℕ → List ℕ
-refreshed queue n room j = set (set queue (room + 2 * j) (firstBelow queue n room j .key)) (room + 2 * j + 1) (firstBelow queue n room j .slot)
+refreshed queue n room j = holding queue room j (firstBelow queue n room j)
 
 -- a node that did not change cannot change those above it
-pub record Refreshed (entry exit : List ℕ) (n room j : ℕ) (changed : Bool) : Type 0 where
-  pub made : exit ≡ refreshed entry n room j
-  pub kept : changed ≡ false → exit ≡ entry
+pub record Refreshed (before after : List ℕ) (n room j : ℕ) (r : Taken) : Type 0 where
+  pub first : r .entry ≡ firstBelow before n room j
+  pub made : after ≡ refreshed before n room j
+  pub kept : r .changed ≡ false → after ≡ before
 
 -- the tree made anew of the same keys
 pub record Built (entry exit : List ℕ) (n room : ℕ) : Type 0 where

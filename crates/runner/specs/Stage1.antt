@@ -4,7 +4,7 @@ use mathlib.Core.Logic.{_≢_}
 use mathlib.Core.Bool.{Bool, true, false, not, _&&_}
 use mathlib.Core.List.{List}
 use mathlib.Core.Option.{some}
-use Prim.Native.Nat.{ℕ, _+_, _*_, _≤_, _<_}
+use Prim.Native.Nat.{ℕ, _+_, _*_, _/_, _%_, _≤_, _<_}
 use lib.Dec.{T, ltb, eqb}
 use lib.IntN.{pos}
 use lib.ListN.{length, getD, replicate}
@@ -34,6 +34,13 @@ pub record Spot (w h i x y : ℕ) : Type 0 where
   pub index : i ≡ w * y + x
   pub column : x < w
   pub row : y < h
+
+-- pixel i of an image of w columns is at column x, row y, and its bytes are there
+pub record At (w i x y bytes : ℕ) : Type 0 where
+  pub columns : 0 < w
+  pub column : x ≡ i % w
+  pub row : y ≡ i / w
+  pub inside : 4 * i + 4 ≤ bytes
 
 -- the buffers hold state s, whose next free number and slot count the code has beside them
 pub record Holding (size : ℕ) (s : State) (t₀ L K B E : List ℕ) (next count : ℕ) : Type 0 where

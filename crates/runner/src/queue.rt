@@ -4,9 +4,9 @@
 // key and the slot that it holds, side by side. A slot that is not pending has the key NONE. Leaf k stands at position n + k of the tree,
 // the children of position x at 2x and 2x + 1, and the root at 1.
 ghost use mathlib.Core.Path.{_≡_};
-ghost use Prim.Native.Nat.{_+_, _*_, _≤_, _<_};
+ghost use Prim.Native.Nat.{_+_, _*_, _/_, _≤_, _<_};
 ghost use lib.ListN.{length};
-ghost use Rattle.runner.specs.Queue.{Sized, entryAt, firstOf, Tree, Refreshed, Built, KeySet, First};
+ghost use Rattle.runner.specs.Queue.{Sized, entryAt, rankOf, firstOf, holding, besideOf, Tree, Refreshed, Built, KeySet, First};
 
 // The key of a slot that is not pending.
 pub(crate) const NONE: u32 = 4294967295;
@@ -36,35 +36,37 @@ fn at(queue: &[u32], n: usize, room: usize, x: usize) -> Entry
     }
 }
 
-// The smaller key, of equal keys the smaller slot.
+// A number for an entry, in the order of keys and then of slots.
+fn rank(e: Entry) -> u64
+    ensures { λ r. ⌜ r ≡ rankOf e ⌝ }
+{
+    4294967296 * e.key as u64 + e.slot as u64
+}
+
+// The smaller key, of equal keys the smaller slot. One comparison, since which of two entries comes first is hard to foretell.
 fn first_of(a: Entry, b: Entry) -> Entry
     ensures { λ r. ⌜ r ≡ firstOf a b ⌝ }
 {
-    if a.key < b.key {
-        return a;
-    }
-    if b.key < a.key {
-        return b;
-    }
-    if a.slot < b.slot { a } else { b }
+    if rank(a) < rank(b) { a } else { b }
 }
 
-// Node j takes the first of its children. Answers whether that changed the node: where it did not, no node above it changes either.
-fn refresh(queue: &mut [u32], n: usize, room: usize, j: usize) -> bool
+// The position that has the same node above it as x.
+fn beside(x: usize) -> usize
+    requires { ⌜ (1 < x) × (x < 4000000) ⌝ }
+    ensures { λ r. ⌜ r ≡ besideOf x ⌝ }
+{
+    if x % 2 == 0 { x + 1 } else { x - 1 }
+}
+
+// Node j holds e from now on.
+fn hold(queue: &mut [u32], n: usize, room: usize, j: usize, e: Entry)
     requires { ⌜ Sized n room (length (now queue)) ⌝ }
     requires { ⌜ j < n ⌝ }
-    ensures { λ r. ⌜ Refreshed (now (queue .entry)) (now (queue .exit)) n room j r ⌝ }
+    ensures { λ _. ⌜ now (queue .exit) ≡ holding (now (queue .entry)) room j e ⌝ }
 {
-    let a = at(queue, n, room, 2 * j);
-    let b = at(queue, n, room, 2 * j + 1);
-    let e = first_of(a, b);
     let p = room + 2 * j;
-    if (queue[p] == e.key) & (queue[p + 1] == e.slot) {
-        return false;
-    }
     queue[p] = e.key;
     queue[p + 1] = e.slot;
-    true
 }
 
 // Makes every node of the tree from the keys.
@@ -75,7 +77,37 @@ pub(crate) fn build(queue: &mut [u32], n: usize, room: usize)
     let mut j = n;
     while 1 < j {
         j = j - 1;
-        refresh(queue, n, room, j);
+        let a = at(queue, n, room, 2 * j);
+        let b = at(queue, n, room, 2 * j + 1);
+        hold(queue, n, room, j, first_of(a, b));
+    }
+}
+
+// What a node holds, and whether that changed it.
+pub(crate) struct Taken {
+    pub(crate) entry: Entry,
+    pub(crate) changed: bool,
+}
+
+// The node above position x, where e stands, takes the first of its children. Where that does not change it, no node above it changes either.
+fn refresh(queue: &mut [u32], n: usize, room: usize, x: usize, e: Entry) -> Taken
+    requires { ⌜ Sized n room (length (now queue)) ⌝ }
+    requires { ⌜ (1 < x) × (x < 2 * n) ⌝ }
+    requires { ⌜ e ≡ entryAt (now queue) n room x ⌝ }
+    ensures { λ r. ⌜ Refreshed (now (queue .entry)) (now (queue .exit)) n room (x / 2) r ⌝ }
+{
+    let first = first_of(e, at(queue, n, room, beside(x)));
+    let old = at(queue, n, room, x / 2);
+    if (old.key == first.key) & (old.slot == first.slot) {
+        return Taken {
+            entry: first,
+            changed: false,
+        };
+    }
+    hold(queue, n, room, x / 2, first);
+    Taken {
+        entry: first,
+        changed: true,
     }
 }
 
@@ -87,12 +119,18 @@ pub(crate) fn set_key(queue: &mut [u32], n: usize, room: usize, k: usize, key: u
     ensures { λ _. ⌜ KeySet (now (queue .entry)) (now (queue .exit)) n room k key ⌝ }
 {
     queue[k] = key;
-    let mut j = (n + k) / 2;
-    while 0 < j {
-        if !refresh(queue, n, room, j) {
+    let mut x = n + k;
+    let mut e = Entry {
+        key,
+        slot: k as u32,
+    };
+    while 1 < x {
+        let above = refresh(queue, n, room, x, e);
+        if !above.changed {
             return;
         }
-        j = j / 2;
+        x = x / 2;
+        e = above.entry;
     }
 }
 

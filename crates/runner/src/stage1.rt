@@ -15,7 +15,7 @@ ghost use Rattle.rules.specs.Stage1 as rules;
 ghost use Rattle.rules.specs.Run as run;
 ghost use Rattle.color.specs.Colors.{colorOf, optionOf};
 ghost use Rattle.runner.specs.Types.{configOf};
-ghost use Rattle.runner.specs.Stage1.{Given, Spot, Holding, meets, joined, aimed, isNowhere, Opened, Placing, Meeting, Sided, Taking, Blank};
+ghost use Rattle.runner.specs.Stage1.{Given, At, Holding, meets, joined, aimed, isNowhere, Opened, Placing, Meeting, Sided, Taking, Blank};
 use super::builder;
 use super::keying;
 use super::slot;
@@ -52,34 +52,37 @@ struct Target {
     count: u32,
 }
 
-// The pixel to the left of column x, row y; none at the border.
-fn left_of(image: &[u8], w: u32, h: u32, x: u32, y: u32) -> ColorOrNone
-    ensures { λ r. ⌜ ((i : ℕ) → Spot w h i x y → length (now (image .entry)) ≡ 4 * (w * h) → optionOf r ≡ rules.colorAt (now (image .entry)) (grid.left w i)) ⌝ }
+// The pixel to the left of pixel i, which is in column x; none at the border.
+fn left_of(image: &[u8], i: u32, x: u32) -> ColorOrNone
+    requires { ⌜ (4 * i + 4 ≤ length (now image)) × (x ≤ i) ⌝ }
+    ensures { λ r. ⌜ ((w : ℕ) → x ≡ i % w → optionOf r ≡ rules.colorAt (now (image .entry)) (grid.left w i)) ⌝ }
 {
     if x == 0 {
         return ColorOrNone::None;
     }
-    color::pixel_at(image, w, h, x - 1, y)
+    ColorOrNone::Some(keying::color_at(image, i - 1))
 }
 
 // The pixel above.
-fn up_of(image: &[u8], w: u32, h: u32, x: u32, y: u32) -> ColorOrNone
-    ensures { λ r. ⌜ ((i : ℕ) → Spot w h i x y → length (now (image .entry)) ≡ 4 * (w * h) → optionOf r ≡ rules.colorAt (now (image .entry)) (grid.up w i)) ⌝ }
+fn up_of(image: &[u8], w: u32, i: u32, x: u32, y: u32) -> ColorOrNone
+    requires { ⌜ At w i x y (length (now image)) ⌝ }
+    ensures { λ r. ⌜ optionOf r ≡ rules.colorAt (now (image .entry)) (grid.up w i) ⌝ }
 {
     if y == 0 {
         return ColorOrNone::None;
     }
-    color::pixel_at(image, w, h, x, y - 1)
+    ColorOrNone::Some(keying::color_at(image, i - w))
 }
 
 // The pixel to the left of the one above.
-fn up_left_of(image: &[u8], w: u32, h: u32, x: u32, y: u32) -> ColorOrNone
-    ensures { λ r. ⌜ ((i : ℕ) → Spot w h i x y → length (now (image .entry)) ≡ 4 * (w * h) → optionOf r ≡ rules.colorAt (now (image .entry)) (grid.upLeft w i)) ⌝ }
+fn up_left_of(image: &[u8], w: u32, i: u32, x: u32, y: u32) -> ColorOrNone
+    requires { ⌜ At w i x y (length (now image)) ⌝ }
+    ensures { λ r. ⌜ optionOf r ≡ rules.colorAt (now (image .entry)) (grid.upLeft w i) ⌝ }
 {
     if y == 0 {
         return ColorOrNone::None;
     }
-    left_of(image, w, h, x, y - 1)
+    left_of(image, i - w, x)
 }
 
 // Whether two pixels are like under the settings, whose shift is given as a number.
@@ -96,20 +99,21 @@ fn left_meets_up(
     o: RunnerConfig,
     shift: u32,
     w: u32,
-    h: u32,
     l: u32,
     u: u32,
+    i: u32,
     x: u32,
     y: u32,
 ) -> bool
-    ensures { λ r. ⌜ ((i : ℕ) → Spot w h i x y → Given (configOf o) w h (now (image .entry)) shift → r ≡ meets (configOf o) w (now (image .entry)) i l u) ⌝ }
+    requires { ⌜ At w i x y (length (now image)) ⌝ }
+    ensures { λ r. ⌜ (configOf o .isSameColorA ≡ pos shift → r ≡ meets (configOf o) w (now (image .entry)) i l u) ⌝ }
 {
     if l == u {
         return false;
     }
-    let c = color::pixel_at(image, w, h, x, y);
-    let left = left_of(image, w, h, x, y);
-    let up = up_of(image, w, h, x, y);
+    let c = ColorOrNone::Some(keying::color_at(image, i));
+    let left = left_of(image, i, x);
+    let up = up_of(image, w, i, x, y);
     if is_same(o, shift, left, up) {
         if is_same(o, shift, c, left) {
             return is_same(o, shift, c, up);
@@ -119,15 +123,16 @@ fn left_meets_up(
 }
 
 // Steps 3 to 5: which cluster the pixel joins.
-fn joins(image: &[u8], o: RunnerConfig, shift: u32, w: u32, h: u32, x: u32, y: u32) -> Into
-    ensures { λ r. ⌜ ((i : ℕ) → Spot w h i x y → Given (configOf o) w h (now (image .entry)) shift → r ≡ joined (configOf o) w (now (image .entry)) i) ⌝ }
+fn joins(image: &[u8], o: RunnerConfig, shift: u32, w: u32, i: u32, x: u32, y: u32) -> Into
+    requires { ⌜ At w i x y (length (now image)) ⌝ }
+    ensures { λ r. ⌜ (configOf o .isSameColorA ≡ pos shift → r ≡ joined (configOf o) w (now (image .entry)) i) ⌝ }
 {
-    let c = color::pixel_at(image, w, h, x, y);
-    if is_same(o, shift, c, up_left_of(image, w, h, x, y)) {
-        if is_same(o, shift, c, up_of(image, w, h, x, y)) {
+    let c = ColorOrNone::Some(keying::color_at(image, i));
+    if is_same(o, shift, c, up_left_of(image, w, i, x, y)) {
+        if is_same(o, shift, c, up_of(image, w, i, x, y)) {
             return Into::Up;
         }
-        if is_same(o, shift, c, left_of(image, w, h, x, y)) {
+        if is_same(o, shift, c, left_of(image, i, x)) {
             return Into::Left;
         }
     }
@@ -135,9 +140,9 @@ fn joins(image: &[u8], o: RunnerConfig, shift: u32, w: u32, h: u32, x: u32, y: u
 }
 
 // Steps 2 to 5: where pixel i goes.
-fn aims(image: &[u8], o: RunnerConfig, shift: u32, w: u32, h: u32, i: u32, x: u32, y: u32) -> Into
-    requires { ⌜ 4 * i + 4 ≤ length (now image) ⌝ }
-    ensures { λ r. ⌜ (Spot w h i x y → Given (configOf o) w h (now (image .entry)) shift → r ≡ aimed (configOf o) w (now (image .entry)) i) ⌝ }
+fn aims(image: &[u8], o: RunnerConfig, shift: u32, w: u32, i: u32, x: u32, y: u32) -> Into
+    requires { ⌜ At w i x y (length (now image)) ⌝ }
+    ensures { λ r. ⌜ (configOf o .isSameColorA ≡ pos shift → r ≡ aimed (configOf o) w (now (image .entry)) i) ⌝ }
 {
     if keying::is_key(image, o, i) {
         if keying::is_discard(o) {
@@ -145,7 +150,7 @@ fn aims(image: &[u8], o: RunnerConfig, shift: u32, w: u32, h: u32, i: u32, x: u3
         }
         return Into::Zero;
     }
-    joins(image, o, shift, w, h, x, y)
+    joins(image, o, shift, w, i, x, y)
 }
 
 fn is_nowhere(to: Into) -> bool
@@ -228,16 +233,15 @@ fn place(
     o: RunnerConfig,
     shift: u32,
     w: u32,
-    h: u32,
     v: Sides,
     i: u32,
     x: u32,
     y: u32,
 ) -> Slots
-    requires { ⌜ ((st : State) × (t₀ : List ℕ) × Placing (configOf o) w h (now image) shift i x y (v .left) (v .up) st t₀ (now labels) (now links) (now table) (now ends) (v .next) (v .count)) ⌝ }
-    ensures { λ r. ⌜ ((st : State) (t₀ : List ℕ) → Placing (configOf o) w h (now (image .entry)) shift i x y (v .left) (v .up) st t₀ (now (labels .entry)) (now (links .entry)) (now (table .entry)) (now (ends .entry)) (v .next) (v .count) → Holding (w * h) (rules.place (configOf o) w (now (image .entry)) i (v .left) (v .up) st) t₀ (now (labels .exit)) (now (links .exit)) (now (table .exit)) (now (ends .exit)) (r .next) (r .count)) ⌝ }
+    requires { ⌜ ((h : ℕ) × (st : State) × (t₀ : List ℕ) × Placing (configOf o) w h (now image) shift i x y (v .left) (v .up) st t₀ (now labels) (now links) (now table) (now ends) (v .next) (v .count)) ⌝ }
+    ensures { λ r. ⌜ ((h : ℕ) (st : State) (t₀ : List ℕ) → Placing (configOf o) w h (now (image .entry)) shift i x y (v .left) (v .up) st t₀ (now (labels .entry)) (now (links .entry)) (now (table .entry)) (now (ends .entry)) (v .next) (v .count) → Holding (w * h) (rules.place (configOf o) w (now (image .entry)) i (v .left) (v .up) st) t₀ (now (labels .exit)) (now (links .exit)) (now (table .exit)) (now (ends .exit)) (r .next) (r .count)) ⌝ }
 {
-    let to = aims(image, o, shift, w, h, i, x, y);
+    let to = aims(image, o, shift, w, i, x, y);
     if is_nowhere(to) {
         return Slots {
             next: v.next,
@@ -333,18 +337,17 @@ fn meet(
     o: RunnerConfig,
     shift: u32,
     w: u32,
-    h: u32,
     s: Slots,
     i: u32,
     x: u32,
     y: u32,
 ) -> Sides
-    requires { ⌜ ((t₀ : List ℕ) × Taking (configOf o) w h (now image) shift i x y t₀ (now labels) (now links) (now table) (now ends) (s .next) (s .count)) ⌝ }
-    ensures { λ r. ⌜ ((t₀ : List ℕ) → Taking (configOf o) w h (now (image .entry)) shift i x y t₀ (now (labels .entry)) (now (links .entry)) (now (table .entry)) (now (ends .entry)) (s .next) (s .count) → Sided (configOf o) w h (now (image .entry)) shift i x y (rules.taken (configOf o) w (now (image .entry)) (w * h) (suc i)) t₀ (now (labels .exit)) (now (links .exit)) (now (table .exit)) (now (ends .exit)) (r .left) (r .up) (r .next) (r .count)) ⌝ }
+    requires { ⌜ ((h : ℕ) × (t₀ : List ℕ) × Taking (configOf o) w h (now image) shift i x y t₀ (now labels) (now links) (now table) (now ends) (s .next) (s .count)) ⌝ }
+    ensures { λ r. ⌜ ((h : ℕ) (t₀ : List ℕ) → Taking (configOf o) w h (now (image .entry)) shift i x y t₀ (now (labels .entry)) (now (links .entry)) (now (table .entry)) (now (ends .entry)) (s .next) (s .count) → Sided (configOf o) w h (now (image .entry)) shift i x y (rules.taken (configOf o) w (now (image .entry)) (w * h) (suc i)) t₀ (now (labels .exit)) (now (links .exit)) (now (table .exit)) (now (ends .exit)) (r .left) (r .up) (r .next) (r .count)) ⌝ }
 {
     let u = up_label(labels, w, i, y);
     let l = left_label(labels, i, x);
-    if left_meets_up(image, o, shift, w, h, l, u, x, y) {
+    if left_meets_up(image, o, shift, w, l, u, i, x, y) {
         return combine(labels, links, table, ends, l, u, s);
     }
     Sides {
@@ -365,45 +368,16 @@ fn take_pixel(
     o: RunnerConfig,
     shift: u32,
     w: u32,
-    h: u32,
     s: Slots,
     i: u32,
     x: u32,
     y: u32,
 ) -> Slots
-    requires { ⌜ ((t₀ : List ℕ) × Taking (configOf o) w h (now image) shift i x y t₀ (now labels) (now links) (now table) (now ends) (s .next) (s .count)) ⌝ }
-    ensures { λ r. ⌜ ((t₀ : List ℕ) → Taking (configOf o) w h (now (image .entry)) shift i x y t₀ (now (labels .entry)) (now (links .entry)) (now (table .entry)) (now (ends .entry)) (s .next) (s .count) → Holding (w * h) (rules.taken (configOf o) w (now (image .entry)) (w * h) (suc i)) t₀ (now (labels .exit)) (now (links .exit)) (now (table .exit)) (now (ends .exit)) (r .next) (r .count)) ⌝ }
+    requires { ⌜ ((h : ℕ) × (t₀ : List ℕ) × Taking (configOf o) w h (now image) shift i x y t₀ (now labels) (now links) (now table) (now ends) (s .next) (s .count)) ⌝ }
+    ensures { λ r. ⌜ ((h : ℕ) (t₀ : List ℕ) → Taking (configOf o) w h (now (image .entry)) shift i x y t₀ (now (labels .entry)) (now (links .entry)) (now (table .entry)) (now (ends .entry)) (s .next) (s .count) → Holding (w * h) (rules.taken (configOf o) w (now (image .entry)) (w * h) (suc i)) t₀ (now (labels .exit)) (now (links .exit)) (now (table .exit)) (now (ends .exit)) (r .next) (r .count)) ⌝ }
 {
-    let v = meet(
-        image,
-        labels,
-        links,
-        table,
-        ends,
-        o,
-        shift,
-        w,
-        h,
-        s,
-        i,
-        x,
-        y,
-    );
-    place(
-        image,
-        labels,
-        links,
-        table,
-        ends,
-        o,
-        shift,
-        w,
-        h,
-        v,
-        i,
-        x,
-        y,
-    )
+    let v = meet(image, labels, links, table, ends, o, shift, w, s, i, x, y);
+    place(image, labels, links, table, ends, o, shift, w, v, i, x, y)
 }
 
 // A column and a row.
@@ -454,7 +428,6 @@ pub(crate) fn stage_1(
             o,
             shift,
             w,
-            h,
             s,
             i,
             at.x,

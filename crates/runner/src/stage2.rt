@@ -210,7 +210,7 @@ fn isolated(work: &mut [u32], o: RunnerConfig, room: usize, t: Turns, k: u32, ar
     t
 }
 
-// Slot k, of so many pixels, is visited.
+// Slot k, of so many pixels, is visited. A cluster of all pixels has no neighbour, and its list need not be read.
 fn visit(
     image: &[u8],
     labels: &mut [u32],
@@ -232,6 +232,9 @@ fn visit(
     let r = room as usize;
     if o.hierarchical < area {
         return put(work, r, t, k);
+    }
+    if area == w * h {
+        return isolated(work, o, r, t, k, area);
     }
     let near = cluster::neighbours(
         labels,

@@ -1,21 +1,19 @@
 //! `sheet check`
 
-use std::io::Read;
-
 use clap::Args;
 use serde::Serialize;
 
-use super::{ensure_one_standard, Failed};
-use crate::batch::{self, Jobs};
+use super::ensure_one_standard;
+use super::several::{Item, Several, Told};
 use crate::failure::{Failure, Outcome};
-use crate::output::{print, print_json};
-use crate::place::{unreadable, Place};
+use crate::image::is_picture;
+use crate::place::{up_to, Place};
 use crate::run::{run, store};
 use crate::settings::Settings;
 use crate::stored::{Difference, Stored};
 use crate::text::grouped;
 
-/// No stored sheet has more bytes than this.
+/// No stored sheet has as many bytes as this.
 const MAX_BYTES: u64 = 1 << 20;
 
 /// Compares stored sheets with what their charts give today
@@ -30,16 +28,8 @@ pub struct Check {
     #[arg(required = true, value_name = "FILE")]
     files: Vec<Place>,
 
-    /// Print a line of JSON for each pair
-    #[arg(long)]
-    json: bool,
-
-    /// Print nothing where all are equal
-    #[arg(long, short, conflicts_with = "json")]
-    quiet: bool,
-
     #[command(flatten)]
-    jobs: Jobs,
+    several: Several,
 
     #[command(flatten)]
     settings: Settings,
@@ -77,31 +67,13 @@ impl Check {
                 chart: &pair[1],
             })
             .collect();
-        let name =
-            |pair: &Pair| format!("{}, {}", pair.stored.chart_name(), pair.chart.chart_name());
-        let results = batch::each(self.jobs, &pairs, name, |pair| self.compare(pair))?;
-        let mut outcome = batch::outcome(&results);
-        for (pair, result) in pairs.iter().zip(&results) {
-            match result {
-                Ok(compared) if self.json => print_json(compared)?,
-                Err(failure) if self.json => print_json(&Failed::of(pair.chart, failure))?,
-                Ok(compared) if !(self.quiet && compared.same) => print(&compared.in_words())?,
-                _ => (),
-            }
-            if matches!(result, Ok(compared) if !compared.same) {
-                outcome = Outcome::Bad;
-            }
-        }
-        Ok(outcome)
+        self.several.each(&pairs, |pair| self.compare(pair))
     }
 
     fn compare(&self, pair: &Pair) -> Result<Compared, Failure> {
-        let stored = of_file(
-            pair.stored,
-            read(pair.stored).and_then(|bytes| Stored::read(&bytes)),
-        )?;
-        let sheet = of_file(pair.chart, run(pair.chart, &self.settings))?.sheet;
-        let fresh = Stored::read(&store(&sheet)?);
+        let stored = read(pair.stored)?;
+        let run = run(pair.chart, &self.settings).map_err(|failure| pair.of_chart(failure))?;
+        let fresh = Stored::read(&store(&run.sheet)?);
         let fresh = fresh.map_err(|failure| Failure::Internal(failure.to_string()))?;
         let differences = stored.differences(&fresh);
         Ok(Compared {
@@ -114,24 +86,45 @@ impl Check {
     }
 }
 
-/// Says of which of the two files a failure is.
-fn of_file<T>(place: &Place, result: Result<T, Failure>) -> Result<T, Failure> {
-    result.map_err(|failure| match failure {
-        Failure::File(text) => Failure::File(format!("{}: {text}", place.chart_name())),
-        other => other,
-    })
+impl Pair<'_> {
+    /// A failure is told under the name of the stored sheet, so one of the chart says so.
+    fn of_chart(&self, failure: Failure) -> Failure {
+        match failure {
+            Failure::File(text) => {
+                Failure::File(format!("its chart {}: {text}", self.chart.chart_name()))
+            }
+            other => other,
+        }
+    }
 }
 
-fn read(place: &Place) -> Result<Vec<u8>, Failure> {
-    let mut bytes = Vec::new();
-    let mut input = place.open()?.take(MAX_BYTES);
-    input
-        .read_to_end(&mut bytes)
-        .map_err(|error| unreadable(&error))?;
-    Ok(bytes)
+impl Item for Pair<'_> {
+    fn chart(&self) -> &Place {
+        self.chart
+    }
+
+    fn stored(&self) -> Option<&Place> {
+        Some(self.stored)
+    }
 }
 
-impl Compared {
+fn read(place: &Place) -> Result<Stored, Failure> {
+    let bytes = up_to(&mut place.open()?, MAX_BYTES)?;
+    let wrong = |text: &str| Err(Failure::File(text.to_string()));
+    if is_picture(&bytes) {
+        return wrong("it is a picture. Give the stored sheet first, and then its chart.");
+    }
+    if bytes.len() as u64 == MAX_BYTES {
+        return wrong("it is no stored sheet: it has 1 MiB or more, and no sheet needs as much");
+    }
+    Stored::read(&bytes)
+}
+
+impl Told for Compared {
+    fn is_well(&self) -> bool {
+        self.same
+    }
+
     fn in_words(&self) -> String {
         let Self { stored, chart, .. } = self;
         if self.same {
@@ -147,7 +140,9 @@ impl Compared {
              Either the chart or the settings are not those that it was made with, or it was changed since.\n"
         )
     }
+}
 
+impl Compared {
     fn line(&self, difference: &Difference) -> String {
         let Difference { count, first, .. } = difference;
         let number = |number: Option<u16>| number.map_or("nothing".to_string(), grouped);

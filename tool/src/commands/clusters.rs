@@ -5,11 +5,10 @@ use std::cmp::Ordering;
 use clap::{Args, ValueEnum};
 use serde::Serialize;
 
-use super::{ensure_one_standard, Failed};
-use crate::batch::{self, Jobs};
+use super::ensure_one_standard;
+use super::several::{Several, Told};
 use crate::cluster::Cluster;
 use crate::failure::{Failure, Outcome};
-use crate::output::{print, print_json};
 use crate::place::Place;
 use crate::run::run;
 use crate::settings::Settings;
@@ -37,12 +36,8 @@ pub struct Clusters {
     #[arg(long)]
     reverse: bool,
 
-    /// Print a line of JSON for each chart
-    #[arg(long)]
-    json: bool,
-
     #[command(flatten)]
-    jobs: Jobs,
+    several: Several,
 
     #[command(flatten)]
     settings: Settings,
@@ -101,18 +96,7 @@ impl Clusters {
     /// Lists the clusters of all charts.
     pub fn run(&self) -> Result<Outcome, Failure> {
         ensure_one_standard(self.charts.iter())?;
-        let results = batch::each(self.jobs, &self.charts, Place::chart_name, |chart| {
-            self.list(chart)
-        })?;
-        for (chart, result) in self.charts.iter().zip(&results) {
-            match result {
-                Ok(listed) if self.json => print_json(listed)?,
-                Err(failure) if self.json => print_json(&Failed::of(chart, failure))?,
-                Ok(listed) => print(&listed.in_words())?,
-                Err(_) => (),
-            }
-        }
-        Ok(batch::outcome(&results))
+        self.several.each(&self.charts, |chart| self.list(chart))
     }
 
     fn list(&self, chart: &Place) -> Result<Listed, Failure> {
@@ -137,7 +121,7 @@ impl Clusters {
     }
 }
 
-impl Listed {
+impl Told for Listed {
     fn in_words(&self) -> String {
         let rows: Vec<_> = self.clusters.iter().map(Cluster::cells).collect();
         format!(

@@ -34,11 +34,9 @@ pub struct Explain {
     chart: Place,
 
     /// The pixel's column, counted from 0 at the left
-    #[arg(allow_negative_numbers = true)]
     x: u32,
 
     /// The pixel's row, counted from 0 at the top
-    #[arg(allow_negative_numbers = true)]
     y: u32,
 
     /// Print one line of JSON
@@ -73,7 +71,7 @@ impl Explain {
             Err(failure) => {
                 tell(&self.chart.chart_name(), &failure);
                 if self.json {
-                    print_json(&Failed::of(&self.chart, &failure))?;
+                    print_json(&Failed::of(&self.chart, None, &failure))?;
                 }
                 Ok(Outcome::Bad)
             }

@@ -9,11 +9,11 @@ use std::time::Instant;
 use clap::Args;
 use serde::Serialize;
 
-use super::{ensure_one_standard, Failed};
-use crate::batch::{self, Jobs};
+use super::ensure_one_standard;
+use super::several::{Item, Several, Told};
 use crate::failure::{Failure, Outcome};
 use crate::image::Format;
-use crate::output::{print, print_json, write_picture};
+use crate::output::write_picture;
 use crate::place::Place;
 use crate::run::{self, milliseconds, run};
 use crate::settings::Settings;
@@ -27,6 +27,7 @@ use crate::writing::{folder_of, identity, Part};
     after_help = "A chart is PNG of any kind, or PAM. Of a channel with 16 bits the high byte counts; other MAXVALs of \
         a PAM are scaled to 0..255, to the nearest step. The sheet is PNG or PAM by the ending of its name. \
         - is standard input or output; a sheet on standard output is PAM.\n\n\
+        The JSON has n (cluster slots), m (outputs) and the milliseconds of each part.\n\n\
         Exit status: 0 all made, 1 a chart was refused or failed (the others are made), 2 bad usage."
 )]
 pub struct Make {
@@ -46,16 +47,8 @@ pub struct Make {
     #[arg(long, value_name = "DIR", requires = "out_dir")]
     stored_dir: Option<PathBuf>,
 
-    /// Print a line of JSON for each chart: n (cluster slots), m (outputs) and milliseconds
-    #[arg(long)]
-    json: bool,
-
-    /// Print nothing when all goes well
-    #[arg(long, short, conflicts_with = "json")]
-    quiet: bool,
-
     #[command(flatten)]
-    jobs: Jobs,
+    several: Several,
 
     #[command(flatten)]
     settings: Settings,
@@ -93,18 +86,10 @@ impl Make {
     pub fn run(&self) -> Result<Outcome, Failure> {
         let jobs = self.jobs()?;
         self.ensure_sensible(&jobs)?;
-        let name = |job: &Job| job.chart.chart_name();
-        let results = batch::each(self.jobs, &jobs, name, |job| self.make(job))?;
-        let to_standard = jobs.iter().any(|job| job.sheet == Place::Standard);
-        for (job, result) in jobs.iter().zip(&results) {
-            match result {
-                Ok(made) if self.json => print_json(made)?,
-                Err(failure) if self.json => print_json(&Failed::of(&job.chart, failure))?,
-                Ok(made) if !self.quiet && !to_standard => print(&made.in_words())?,
-                _ => (),
-            }
-        }
-        Ok(batch::outcome(&results))
+        // A sheet on standard output stands there alone.
+        let mut several = self.several;
+        several.quiet |= jobs.iter().any(|job| job.sheet == Place::Standard);
+        several.each(&jobs, |job| self.make(job))
     }
 
     /// What is to be made of what.
@@ -168,7 +153,7 @@ impl Make {
     fn ensure_sheet_can_go(&self, sheet: &Place) -> Result<(), Failure> {
         match sheet {
             Place::File(path) => Format::of(path).map(|_| ()),
-            Place::Standard if self.json => {
+            Place::Standard if self.several.json => {
                 Err(usage("--json and a sheet can't both go to standard output"))
             }
             Place::Standard if io::stdout().is_terminal() => Err(usage(
@@ -234,7 +219,13 @@ impl Job {
     }
 }
 
-impl Made {
+impl Item for Job {
+    fn chart(&self) -> &Place {
+        &self.chart
+    }
+}
+
+impl Told for Made {
     fn in_words(&self) -> String {
         format!(
             "{}: {} × {}, {} painted\n",

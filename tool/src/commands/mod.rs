@@ -4,6 +4,7 @@ pub mod check;
 pub mod clusters;
 pub mod explain;
 pub mod make;
+pub mod several;
 
 use serde::Serialize;
 
@@ -13,6 +14,9 @@ use crate::place::Place;
 /// What the JSON says of a chart that failed.
 #[derive(Serialize)]
 struct Failed {
+    /// The stored sheet that it should have been compared with.
+    #[serde(skip_serializing_if = "Option::is_none")]
+    stored: Option<String>,
     chart: String,
     /// The number of the library's refusal, if it was one.
     refusal: Option<u32>,
@@ -20,8 +24,9 @@ struct Failed {
 }
 
 impl Failed {
-    fn of(chart: &Place, failure: &Failure) -> Self {
+    fn of(chart: &Place, stored: Option<&Place>, failure: &Failure) -> Self {
         Self {
+            stored: stored.map(Place::chart_name),
             chart: chart.chart_name(),
             refusal: failure.number(),
             error: failure.to_string(),

@@ -4,11 +4,11 @@ mod pam;
 mod png;
 
 use std::ffi::OsStr;
-use std::io::{self, Read};
+use std::io::Read;
 use std::path::Path;
 
 use crate::failure::Failure;
-use crate::place::{unreadable, Place};
+use crate::place::{up_to, Place};
 
 /// More bytes than this are not read: a file for the largest chart has far fewer.
 const MAX_BYTES: u64 = 64 << 20;
@@ -34,16 +34,23 @@ pub fn read(place: &Place, accepts: Accepts) -> Result<Image, Failure> {
     if magic.is_empty() {
         return Err(Failure::File("it is empty".to_string()));
     }
-    let is_png = magic.starts_with(png::SIGNATURE);
-    let is_pam = magic.starts_with(pam::SIGNATURE);
     let cut_off = png::SIGNATURE.starts_with(&magic) || pam::SIGNATURE.starts_with(&magic);
     let mut whole = magic.as_slice().chain(input);
-    match (is_png, is_pam) {
-        (true, _) => png::decode(&mut whole, accepts),
-        (_, true) => pam::decode(&mut whole, accepts),
-        _ if cut_off => Err(broken("chart", "it ends after its first bytes")),
-        _ => Err(Failure::File("it is neither PNG nor PAM".to_string())),
+    if magic.starts_with(png::SIGNATURE) {
+        png::decode(&mut whole, accepts)
+    } else if magic.starts_with(pam::SIGNATURE) {
+        pam::decode(&mut whole, accepts)
+    } else if cut_off {
+        Err(broken("chart", "it ends after its first bytes"))
+    } else {
+        let text = "it is neither PNG nor PAM. Save the chart as PNG.";
+        Err(Failure::File(text.to_string()))
     }
+}
+
+/// Whether a file with these bytes is PNG or PAM, by the first of them.
+pub fn is_picture(bytes: &[u8]) -> bool {
+    bytes.starts_with(png::SIGNATURE) || bytes.starts_with(pam::SIGNATURE)
 }
 
 /// The file formats of a picture that is written.
@@ -78,19 +85,12 @@ impl Image {
     }
 }
 
-/// Reads at most `count` bytes.
-fn up_to(input: &mut dyn Read, count: u64) -> Result<Vec<u8>, Failure> {
-    let mut bytes = Vec::new();
-    input
-        .take(count)
-        .read_to_end(&mut bytes)
-        .map_err(|error: io::Error| unreadable(&error))?;
-    Ok(bytes)
-}
-
 /// The failure for a file that is not what its first bytes promise.
 fn broken(kind: &str, why: &str) -> Failure {
-    Failure::File(format!("it is a broken {kind}: {why}"))
+    let why = why.trim_end_matches('.');
+    Failure::File(format!(
+        "it is a broken {kind}: {why}. Save or copy it anew."
+    ))
 }
 
 #[cfg(test)]

@@ -3,10 +3,10 @@
 use std::cmp::Ordering;
 use std::io::{BufRead, BufReader, Read};
 
-use super::{broken, up_to, Accepts, Image};
+use super::{broken, Accepts, Image};
 use crate::colour::CHANNELS;
 use crate::failure::Failure;
-use crate::place::unreadable;
+use crate::place::{unreadable, up_to};
 
 /// The first bytes of every PAM.
 pub const SIGNATURE: &[u8] = b"P7\n";

@@ -7,9 +7,10 @@ use png::{
     Transformations,
 };
 
-use super::{broken, up_to, Accepts, Image, MAX_BYTES};
+use super::{broken, Accepts, Image, MAX_BYTES};
 use crate::colour::CHANNELS;
 use crate::failure::Failure;
+use crate::place::up_to;
 
 /// The first bytes of every PNG.
 pub const SIGNATURE: &[u8] = b"\x89PNG\r\n\x1a\n";
@@ -27,12 +28,15 @@ pub fn decode(input: &mut dyn Read, accepts: Accepts) -> Result<Image, Failure> 
     let (width, height) = size(&bytes)?;
     accepts(width, height)?;
     bytes.append(&mut up_to(input, MAX_BYTES)?);
+    if bytes.len() as u64 >= MAX_BYTES {
+        let text = "it is a PNG of 64 MiB or more, far more than its size needs. Save it anew.";
+        return Err(Failure::File(text.to_string()));
+    }
     check_to_the_end(&bytes)?;
-    let pixels = pixels(&bytes).map_err(wrong)??;
     Ok(Image {
         width,
         height,
-        bytes: pixels,
+        bytes: pixels(&bytes)?,
     })
 }
 
@@ -86,25 +90,25 @@ fn check_to_the_end(mut bytes: &[u8]) -> Result<(), Failure> {
 }
 
 /// The pixels as RGBA bytes.
-fn pixels(bytes: &[u8]) -> Result<Result<Vec<u8>, Failure>, DecodingError> {
+fn pixels(bytes: &[u8]) -> Result<Vec<u8>, Failure> {
     let mut decoder = Decoder::new(bytes);
     decoder.set_transformations(Transformations::EXPAND | Transformations::STRIP_16);
-    let mut reader = decoder.read_info()?;
+    let mut reader = decoder.read_info().map_err(wrong)?;
     let info = reader.info();
     let whole = |control: &png::FrameControl| (control.width, control.height) == info.size();
     if !info.frame_control().map_or(true, whole) {
-        return Ok(Err(broken("PNG", "its first frame is not of its size")));
+        return Err(broken("PNG", "its first frame is not of its size"));
     }
     let mut samples = vec![0; reader.output_buffer_size()];
-    let frame = reader.next_frame(&mut samples)?;
+    let frame = reader.next_frame(&mut samples).map_err(wrong)?;
     samples.truncate(frame.buffer_size());
-    Ok(match (frame.color_type, frame.bit_depth) {
+    match (frame.color_type, frame.bit_depth) {
         (ColorType::Grayscale, BitDepth::Eight) => Ok(spread(&samples, |[y]| [y, y, y, 255])),
         (ColorType::GrayscaleAlpha, BitDepth::Eight) => Ok(spread(&samples, |[y, a]| [y, y, y, a])),
         (ColorType::Rgb, BitDepth::Eight) => Ok(spread(&samples, |[r, g, b]| [r, g, b, 255])),
         (ColorType::Rgba, BitDepth::Eight) => Ok(samples),
         other => Err(Failure::Internal(format!("a PNG was read as {other:?}"))),
-    })
+    }
 }
 
 /// Makes four channels of `N` for each pixel.
@@ -125,7 +129,7 @@ fn cut_off() -> Failure {
 fn wrong(error: DecodingError) -> Failure {
     match error {
         DecodingError::LimitsExceeded => Failure::File(
-            "it is a PNG with more than 1 MiB of text, profile or other notes in one piece; save it without them"
+            "it is a PNG with more than 1 MiB of text, profile or other notes in one piece. Save it without them."
                 .to_string(),
         ),
         error => broken("PNG", &error.to_string()),

@@ -1,5 +1,8 @@
+use mathlib.Core.Path.{ap₂, _∙_}
 use native.Mathlib.Omega.{arith}
-use Rattle.runner.proofs.Tournament.{Building, build-start, build-down, build-end}
+use borrow.Author.Needs.{needs}
+use Rattle.runner.specs.Queue.{firstOf}
+use Rattle.runner.proofs.Tournament.{Building, build-start, build-down, build-end, held-node}
 use Rattle.runner.proofs.queue.build.Statement.{statement}
 use Rattle.runner.proofs.queue.build.Tie as tie
 
@@ -16,14 +19,34 @@ loop-holds c = build-start _ _ _ (c .before .pre)
 sub-j : tie.Need-sub-j Inv-loop μ-loop
 sub-j c = omega arith
 
-refresh-requires : tie.Need-refresh-requires Inv-loop μ-loop
-refresh-requires c κs = (c .before .before .loop .inv .sized, omega (arith, c .before .before .loop .inv .inside))
+mul-at : tie.Need-mul-at Inv-loop μ-loop
+mul-at c = omega (arith, c .before .before .loop .inv .inside)
+
+at-requires : tie.Need-at-requires Inv-loop μ-loop
+at-requires c κs = let I = c .before .before .loop .inv in (I .sized, omega (arith, I .inside))
+
+mul-at-2 : tie.Need-mul-at-2 Inv-loop μ-loop
+mul-at-2 c = omega (arith, c .before .before .before .before .loop .inv .inside)
+
+add-at : tie.Need-add-at Inv-loop μ-loop
+add-at c = omega (arith, c .before .before .before .before .loop .inv .inside)
+
+at-requires-2 : tie.Need-at-requires-2 Inv-loop μ-loop
+at-requires-2 c κs = let I = c .before .before .before .before .loop .inv in (I .sized, omega (arith, I .inside, c .before .before .before .loop-test .taken))
+
+first-of-requires : tie.Need-first-of-requires Inv-loop μ-loop
+first-of-requires c κs = tt
+
+hold-requires : tie.Need-hold-requires Inv-loop μ-loop
+hold-requires c κs = let I = c .before .before .before .before .before .before .before .loop .inv in (I .sized, omega (arith, I .inside, c .before .before .before .before .before .before .loop-test .taken))
 
 loop-less : tie.Need-loop-less Inv-loop μ-loop
-loop-less c = omega arith
+loop-less c = omega (arith, c .before .before .before .before .before .before .before .before .before .loop-test .taken)
 
 loop-again : tie.Need-loop-again Inv-loop μ-loop
-loop-again c = build-down _ _ _ _ _ _ (c .before .before .before .before .before .loop .inv) (c .before .before .before .before .loop-test .taken) (c .before .before .refresh .ensures .made)
+loop-again c =
+    let e = c .before .before .before .first-of .ensures ∙ ap₂ firstOf (c .before .before .before .before .before .before .before .at .ensures) (c .before .before .before .before .before .at2 .ensures) in
+    build-down _ _ _ _ _ _ (c .before .before .before .before .before .before .before .before .before .before .loop .inv) (c .before .before .before .before .before .before .before .before .before .loop-test .taken) (c .before .before .hold .ensures ∙ held-node _ _ _ _ _ e)
 
 same-length : tie.Need-same-length Inv-loop μ-loop
 same-length c = c .before .loop .inv .long
@@ -39,7 +62,13 @@ build-spec =
     μ-loop
     loop-holds
     sub-j
-    refresh-requires
+    mul-at
+    at-requires
+    mul-at-2
+    add-at
+    at-requires-2
+    first-of-requires
+    hold-requires
     loop-less
     loop-again
     same-length

@@ -5,12 +5,12 @@ use Rattle.runner.proofs.Tournament.{Climbing, climb-start, climb-up, c
 use Rattle.runner.proofs.queue.set_key.Statement.{statement}
 use Rattle.runner.proofs.queue.set_key.Tie as tie
 
--- Only the node whose turn it is may not hold the first of its children. A node that stays as it was ends the way up.
+-- Only the node above x may not hold the first of its children. A node that stays as it was ends the way up.
 abbrev Inv-loop : tie.InvT-loop
-Inv-loop queue₀ n room k key j₀ queue j = Climbing queue₀ queue n room j
+Inv-loop queue₀ n room k key x₀ e₀ queue x e = Climbing queue₀ queue n room x e
 
 abbrev μ-loop : tie.MeasureT-loop
-μ-loop queue₀ n room k key j₀ queue j = j
+μ-loop queue₀ n room k key x₀ e₀ queue x e = x
 
 mul-queue : tie.Need-mul-queue Inv-loop μ-loop
 mul-queue c = omega arith
@@ -18,36 +18,45 @@ mul-queue c = omega arith
 slice-write-queue : tie.Need-slice-write-queue Inv-loop μ-loop
 slice-write-queue c = omega arith
 
-add-j : tie.Need-add-j Inv-loop μ-loop
-add-j c = omega arith
+add-x : tie.Need-add-x Inv-loop μ-loop
+add-x c = omega arith
+
+cast-t11 : tie.Need-cast-t11 Inv-loop μ-loop
+cast-t11 c = omega arith
 
 loop-holds : tie.Need-loop-holds Inv-loop μ-loop
 loop-holds c = climb-start _ _ _ _ _ (c .before .pre .0) (c .before .pre .1 .0) (c .before .pre .1 .1)
 
 refresh-requires : tie.Need-refresh-requires Inv-loop μ-loop
-refresh-requires c κs = (c .before .before .loop .inv .sized, c .before .before .loop .inv .inside)
+refresh-requires c κs = let I = c .before .before .loop .inv in (I .sized, ((c .before .loop-test .taken, I .inside), I .stands))
 
 same-length : tie.Need-same-length Inv-loop μ-loop
-same-length c = let l = c .before .before .before .before .before in simp length-set at (climb-up _ _ _ _ _ _ (l .before .loop .inv) (l .loop-test .taken) (c .before .before .before .refresh .ensures .made) .long)
+same-length c =
+    let l = c .before .before .before .before .before .before in
+    simp length-set at (climb-up _ _ _ _ _ _ _ (l .before .loop .inv) (l .loop-test .taken) _ (c .before .before .before .before .refresh .ensures) .long)
 
 returns : tie.Need-returns Inv-loop μ-loop
 returns c =
-    let l = c .before .before .before .before .before in
-    let e = c .before .before .before .refresh .ensures in
-    let s = climb-stop _ _ _ _ _ _ (l .before .loop .inv) (l .loop-test .taken) (e .made) (e .kept (not-true _ (c .if1 .taken))) in
-    record { tree = climb-end _ _ _ _ _ (omega arith) s; keys = s .keys }
+    let l = c .before .before .before .before .before .before in
+    let R = c .before .before .before .before .refresh .ensures in
+    record {
+      tree = climb-stop _ _ _ _ _ _ _ (l .before .loop .inv) (l .loop-test .taken) _ R (not-true _ (c .if1 .taken));
+      keys = climb-up _ _ _ _ _ _ _ (l .before .loop .inv) (l .loop-test .taken) _ R .keys;
+    }
 
 loop-less : tie.Need-loop-less Inv-loop μ-loop
-loop-less c = omega arith
+loop-less c = omega (arith, c .before .before .before .before .before .before .before .loop-test .taken)
 
 loop-again : tie.Need-loop-again Inv-loop μ-loop
-loop-again c = let l = c .before .before .before .before .before in climb-up _ _ _ _ _ _ (l .before .loop .inv) (l .loop-test .taken) (c .before .before .before .refresh .ensures .made)
+loop-again c =
+    let l = c .before .before .before .before .before .before .before in
+    climb-up _ _ _ _ _ _ _ (l .before .loop .inv) (l .loop-test .taken) _ (c .before .before .before .before .before .refresh .ensures)
 
 same-length-2 : tie.Need-same-length-2 Inv-loop μ-loop
 same-length-2 c = simp length-set at (c .before .loop .inv .long)
 
 returns-2 : tie.Need-returns-2 Inv-loop μ-loop
-returns-2 c = record { tree = climb-end _ _ _ _ _ (c .loop-test .left) (c .before .loop .inv); keys = c .before .loop .inv .keys }
+returns-2 c = record { tree = climb-end _ _ _ _ _ _ (c .loop-test .left) (c .before .loop .inv); keys = c .before .loop .inv .keys }
 
 pub set-key-spec : {M : Type 1} → statement M
 set-key-spec =
@@ -57,7 +66,8 @@ set-key-spec =
     μ-loop
     mul-queue
     slice-write-queue
-    add-j
+    add-x
+    cast-t11
     loop-holds
     refresh-requires
     same-length

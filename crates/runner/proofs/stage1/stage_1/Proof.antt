@@ -55,7 +55,7 @@ take-pixel-requires c κs =
     let a = c .before .before .before .before in
     let b = a .before .before .before .before in
     let p = b .before .before .before .before .before .before .before .pre in
-    (_, taking (p .0) (a .before .loop .inv) (a .loop-test .taken) _ (b .clear-slot .ensures) (p .1 .table))
+    (_, _, taking (p .0) (a .before .loop .inv) (a .loop-test .taken) _ (b .clear-slot .ensures) (p .1 .table))
 
 add-i : tie.Need-add-i Inv-loop μ-loop
 add-i c = let a = c .before .before .before .before .before .before .before .before .before .before .before .before .before in omega (arith, a .loop-test .taken, a .before .before .before .before .before .before .before .before .before .before .before .pre .0 .small)
@@ -79,7 +79,7 @@ loop-again c =
       index = c .cell-after .ensures .1 _ (I .index);
       column = c .cell-after .ensures .0;
       within = omega (arith, a .loop-test .taken);
-      held = λ t₀ e r. rw add-one (b .take-pixel .ensures t₀ (taking (a .before .before .before .before .before .before .before .before .before .before .before .pre .0) I (a .loop-test .taken) t₀ e r));
+      held = λ t₀ e r. rw add-one (b .take-pixel .ensures _ t₀ (taking (a .before .before .before .before .before .before .before .before .before .before .before .pre .0) I (a .loop-test .taken) t₀ e r));
       kept = (k .0 ∙ I .kept .0, k .1 .0 ∙ I .kept .1, k .1 .1 .0 ∙ I .kept .2, k .1 .1 .1 .0 ∙ I .kept .3);
     }
 
