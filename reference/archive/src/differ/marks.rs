@@ -21,16 +21,13 @@ const UNSTORED: &[Range<usize>] = &[2..RESIDUE, RESIDUE..SLOT];
 type Fronts = [usize; 5];
 
 /// What a call may read, but for its image, and must write.
-#[derive(Clone, Default)]
+#[derive(Clone, Copy, Default)]
 pub struct Marks {
     reads: Fronts,
     /// The numbers of each slot that is read which it may not read all the same.
     unread: &'static [Range<usize>],
     writes: Fronts,
     writes_bytes: bool,
-    /// Where a run compares what the work buffer holds with what it then writes there: the nodes of
-    /// its queue. Whether they are equal changes nothing that it leaves.
-    compared: Range<usize>,
 }
 
 impl Marks {
@@ -46,11 +43,9 @@ impl Marks {
             m: answer.m,
         };
         let [labels, links, table, outputs, _] = fronts(sheet);
-        let room = sheet.pixels() + 1;
         Self {
             writes: [labels, links, table, outputs, usize::MAX],
             writes_bytes: true,
-            compared: room..3 * room,
             ..Self::default()
         }
     }
@@ -83,7 +78,6 @@ impl Marks {
         for ((_, buffer), front) in buffers.named().into_iter().zip(self.reads) {
             memcheck::undefined(&buffer[front.min(buffer.len())..]);
         }
-        memcheck::defined(buffers.work.get(self.compared.clone()).unwrap_or(&[]));
         let table = &buffers.table[..self.reads[2].min(buffers.table.len())];
         for slot in table.chunks_exact(SLOT) {
             for part in self.unread {
