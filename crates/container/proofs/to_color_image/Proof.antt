@@ -42,15 +42,13 @@ accepted : (c : tie.Else1)
     → (let a = c .before .before .before .before .before .before .args in paintAnswer (a .w) (a .h) (length (a .links .now)) (length (a .table .now)) (length (a .outputs .now)) (length (a .picture .now)) (a .n) (a .m) ≡ 0)
 accepted c = sym (c .before .paint-answer .ensures) ∙ c .if1 .left
 
-mul-painting : tie.Need-mul-painting
-mul-painting c = omega (arith, can-paint _ _ _ _ _ _ _ _ (accepted c) .small)
-
-painting-requires : tie.Need-painting-requires
-painting-requires c κs = can-paint _ _ _ _ _ _ _ _ (accepted (c .before))
-
 returns-2 : tie.Need-returns-2
 unfolding paintCall
 returns-2 c = rw (accepted (c .before .before .before .before)) (c .before .before .painting .ensures)
 
 pub to-color-image-spec : {M : Type 1} → statement M
-to-color-image-spec = tie.close (tie.spec (search needs) returns mul-painting painting-requires (search needs) returns-2)
+to-color-image-spec =
+    tie.close
+    (tie.spec
+    (search needs) returns (λ c. omega (arith, can-paint _ _ _ _ _ _ _ _ (accepted c) .small)) (λ c κs. can-paint _ _ _ _ _ _ _ _ (accepted (c .before)))
+    (search needs) returns-2)

@@ -26,9 +26,6 @@ joined size links c d e u v w x y z k l m n t =
     let m₁ = subst (λ i. Leads size links w e i) (eqb-true z 0 (s .2)) m in
     subst (λ i. Leads size links u i 0) n (leads-on size links (c + d) e u w 0 (leads-on size links c d u v w k₁ l₁) m₁)
 
-returns : tie.Need-returns
-returns c e = absurd (subst T (sym e) tt)
-
 returns-2 : tie.Need-returns-2
 returns-2 c e =
     let s = c .before .before .before .before .before .before .before in
@@ -46,4 +43,4 @@ returns-3 c e =
     joined (a .size) (a .links .now) (r .na) (r .nc) (r .nb) (a .first) (a .r) (a .q) (r .a) (r .c) (r .b) (l .3) (l .5) (l .4) (omega (arith, c .before .before .before .before .before .before .before .if1 .left)) e
 
 pub is-whole-spec : {M : Type 1} → statement M
-is-whole-spec = tie.close (tie.spec (search needs) (search needs) (search needs) returns returns-2 returns-3)
+is-whole-spec = tie.close (tie.spec (search needs) (search needs) (search needs) (λ c e. absurd (subst T (sym e) tt)) returns-2 returns-3)
