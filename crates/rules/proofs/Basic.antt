@@ -1,6 +1,6 @@
 -- The ledger and the state after a merge, and what lists, sums and labels have to do with the ledger in both stages.
 use mathlib.Core.Path.{_≡_, refl, sym, ap, ap₂, _∙_, subst, fun-ext}
-use mathlib.Core.Logic.{_≢_, _⊎_, inl, inr}
+use mathlib.Core.Logic.{_≢_, _⊎_, inl, inr, by-cases}
 use mathlib.Core.Bool.{Bool, false, _||_}
 use mathlib.Core.List.{List, [], _++_}
 use Prim.Native.Nat.{ℕ, _+_, _<_}
@@ -50,34 +50,28 @@ module _ (g : Held) (f t : ℕ) (n : f ≢ t) where
   plain-to q x = subst (λ u. T (u q)) (sym (plain-t g f t)) (T-or-r (g t q) (g f q) x)
 
   pub plain-up : (j q : ℕ) → j ≢ f → T (g j q) → T (enter (plain f t) g j q)
-  plain-up j q d x = pick (ℕ-discrete j t)
-    where
-      pick : Dec (j ≡ t) → T (enter (plain f t) g j q)
-      pick (yes e) = subst (λ m. T (enter (plain f t) g m q)) (sym e) (subst (λ u. T (u q)) (sym (plain-t g f t)) (T-or-l (g t q) (g f q) (subst (λ m. T (g m q)) e x)))
-      pick (no e) = subst (λ u. T (u q)) (sym (plain-o g f t j d e)) x
+  plain-up j q d x = by-cases (ℕ-discrete j t)
+      (λ e. subst (λ m. T (enter (plain f t) g m q)) (sym e) (subst (λ u. T (u q)) (sym (plain-t g f t)) (T-or-l (g t q) (g f q) (subst (λ m. T (g m q)) e x))))
+      (λ e. subst (λ u. T (u q)) (sym (plain-o g f t j d e)) x)
 
 -- and a deepening merge
 module _ (g : Held) (f t : ℕ) where
   pub deepened-down : (j q : ℕ) → T (enter (deepened f t) g j q) → ((j ≡ t) × T (g f q)) ⊎ T (g j q)
-  deepened-down j q x = pick (ℕ-discrete j t)
+  deepened-down j q x = by-cases (ℕ-discrete j t)
+      (λ e. side e (T-or (g t q) (g f q) (subst (λ u. T (u q)) (deepened-t g f t) (subst (λ m. T (enter (deepened f t) g m q)) e x))))
+      (λ e. inr (subst (λ u. T (u q)) (deepened-o g f t j e) x))
     where
       side : (j ≡ t) → T (g t q) ⊎ T (g f q) → ((j ≡ t) × T (g f q)) ⊎ T (g j q)
       side e (inl y) = inr (subst (λ m. T (g m q)) (sym e) y)
       side e (inr y) = inl (e, y)
 
-      pick : Dec (j ≡ t) → ((j ≡ t) × T (g f q)) ⊎ T (g j q)
-      pick (yes e) = side e (T-or (g t q) (g f q) (subst (λ u. T (u q)) (deepened-t g f t) (subst (λ m. T (enter (deepened f t) g m q)) e x)))
-      pick (no e) = inr (subst (λ u. T (u q)) (deepened-o g f t j e) x)
-
   pub deepened-to : (q : ℕ) → T (g f q) → T (enter (deepened f t) g t q)
   deepened-to q x = subst (λ u. T (u q)) (sym (deepened-t g f t)) (T-or-r (g t q) (g f q) x)
 
   pub deepened-up : (j q : ℕ) → T (g j q) → T (enter (deepened f t) g j q)
-  deepened-up j q x = pick (ℕ-discrete j t)
-    where
-      pick : Dec (j ≡ t) → T (enter (deepened f t) g j q)
-      pick (yes e) = subst (λ m. T (enter (deepened f t) g m q)) (sym e) (subst (λ u. T (u q)) (sym (deepened-t g f t)) (T-or-l (g t q) (g f q) (subst (λ m. T (g m q)) e x)))
-      pick (no e) = subst (λ u. T (u q)) (sym (deepened-o g f t j e)) x
+  deepened-up j q x = by-cases (ℕ-discrete j t)
+      (λ e. subst (λ m. T (enter (deepened f t) g m q)) (sym e) (subst (λ u. T (u q)) (sym (deepened-t g f t)) (T-or-l (g t q) (g f q) (subst (λ m. T (g m q)) e x))))
+      (λ e. subst (λ u. T (u q)) (sym (deepened-o g f t j e)) x)
 
 -- ---- the state after a merge, of either kind
 
@@ -205,21 +199,13 @@ module _ {image : List ℕ} {size : ℕ} {h : Held} {s s′ : State} (S : Basic 
   -- h′: the ledger after the merge
   module _ (h′ : Held) (down : (j q : ℕ) → T (h′ j q) → ((j ≡ t) × T (h f q)) ⊎ T (h j q)) where
     new-places : (k p : ℕ) → T (h′ k p) → p < length (s′ .labels)
-    new-places k p x = pick (down k p x)
+    new-places k p x = elim (down k p x) [ inl y ↦ rw same (S .places f p (y .1)) | inr y ↦ rw same (S .places k p y) ]
       where
         same : length (s′ .labels) ≡ length (s .labels)
         same = ap length (M .labels) ∙ length-relabel t (cluster s f .pixels) (s .labels)
 
-        pick : ((k ≡ t) × T (h f p)) ⊎ T (h k p) → p < length (s′ .labels)
-        pick (inl y) = rw same (S .places f p (y .1))
-        pick (inr y) = rw same (S .places k p y)
-
     new-slots : (k p : ℕ) → T (h′ k p) → k < length (s′ .clusters)
-    new-slots k p x = pick (down k p x)
-      where
-        pick : ((k ≡ t) × T (h f p)) ⊎ T (h k p) → k < length (s′ .clusters)
-        pick (inl y) = rw (M .table, y .0) ht
-        pick (inr y) = rw (M .table) (S .slots k p y)
+    new-slots k p x = elim (down k p x) [ inl y ↦ rw (M .table, y .0) ht | inr y ↦ rw (M .table) (S .slots k p y) ]
 
     new-shown : (to : (q : ℕ) → T (h f q) → T (h′ t q)) → (up : (j q : ℕ) → j ≢ f → T (h j q) → T (h′ j q))
         → (p : ℕ) → label s′ p ≢ 0 → T (h′ (label s′ p) p)

@@ -1,6 +1,6 @@
 -- The list of every standing cluster is read along the links: a cluster inside another is a stretch of the outer one's list.
 use mathlib.Core.Path.{_≡_, refl, sym, ap, _∙_, subst}
-use mathlib.Core.Logic.{_≢_, _⊎_, inl, inr}
+use mathlib.Core.Logic.{_≢_, _⊎_, inl, inr, by-cases}
 use mathlib.Core.Bool.{Bool, true, false}
 use mathlib.Core.List.{List, [], _∷_, _++_, append-assoc, append-nil}
 use Prim.Native.Nat.{ℕ, suc, _+_, _≤_, _<_}
@@ -147,14 +147,12 @@ module _ {image : List ℕ} {size : ℕ} where
     pub deepen-chained : (hollow : Bool) → Chained (deepen hollow k t s)
     unfolding deepen mergedTo
     deepen-chained hollow = moved-chained s (G .sound) C k t d (root a k s G pos e) (target-root a k s G pos e t N) (t-slot a k s G pos e t N) apart M
-        (deepened-down (ledger (s .log)) k t) (λ j q x z. same j z (ℕ-discrete j k))
+        (deepened-down (ledger (s .log)) k t) (λ j q x z. by-cases (ℕ-discrete j k)
+        (λ y. subst (λ m. cluster (deepen hollow k t s) m .pixels ≡ cluster s m .pixels) (sym y) (ap (λ c. c .pixels) (deepen-f k t s d (k-slot a k s G pos e t N) (t-slot a k s G pos e t N) hollow)))
+        (λ y. ap (λ c. c .pixels) (M .other j y z)))
       where
         M : Moved k t s (deepen hollow k t s)
         M = deepen-moved k t s d (k-slot a k s G pos e t N) (t-slot a k s G pos e t N) hollow
-
-        same : (j : ℕ) → j ≢ t → Dec (j ≡ k) → cluster (deepen hollow k t s) j .pixels ≡ cluster s j .pixels
-        same j z (yes y) = subst (λ m. cluster (deepen hollow k t s) m .pixels ≡ cluster s m .pixels) (sym y) (ap (λ c. c .pixels) (deepen-f k t s d (k-slot a k s G pos e t N) (t-slot a k s G pos e t N) hollow))
-        same j z (no y) = ap (λ c. c .pixels) (M .other j y z)
 
 pub prepareStage2-chained : {image : List ℕ} {size : ℕ} {Gone : ℕ → Type 0} {Keyed : Type 0} (i : ℕ) (s : State) → Early image size Gone Keyed i s → Chained (prepareStage2 s)
 unfolding prepareStage2

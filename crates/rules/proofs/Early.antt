@@ -1,6 +1,6 @@
 -- Stage 1: what holds after i pixels, and that stage 2 starts from it.
 use mathlib.Core.Path.{_≡_, refl, sym, ap, _∙_, subst, fun-ext}
-use mathlib.Core.Logic.{_≢_, _⊎_, inl, inr}
+use mathlib.Core.Logic.{_≢_, _⊎_, inl, inr, by-cases}
 use mathlib.Core.Bool.{Bool, true, false, not, _&&_, _||_, true≢false}
 use mathlib.Core.List.{List, [], _∷_, _++_}
 use mathlib.Core.Option.{Option, some}
@@ -88,11 +88,7 @@ pub record Adds (image : List ℕ) (size : ℕ) (i k : ℕ) (s s′ : State) : T
 
 -- one of two: k, or another
 two : (k : ℕ) (P : ℕ → Type 0) → P k → ((j : ℕ) → j ≢ k → P j) → (j : ℕ) → P j
-two k P a b j = pick (ℕ-discrete j k)
-  where
-    pick : Dec (j ≡ k) → P j
-    pick (yes e) = subst P (sym e) a
-    pick (no d) = b j d
+two k P a b j = elim (ℕ-discrete j k) [ yes e ↦ subst P (sym e) a | no d ↦ b j d ]
 
 -- slot n of a list of at least n, replaced or appended
 pub record Placed (cs cs′ : List Cluster) (n : ℕ) (x : Cluster) : Type 0 where
@@ -193,18 +189,14 @@ module _ {image : List ℕ} {size : ℕ} {Gone : ℕ → Type 0} {Keyed : Type 0
           (A .k-sum ∙ ⊕-comm (tally image (ledger (s .log) k) size) (one (pixel image i)) ∙ ap (λ x. x ⊕ tally image (ledger (s .log) k) size) (sym (tally-one image i size fits))
           ∙ sym (tally-or image (λ q. eqb q i) (ledger (s .log) k) disjoint size) ∙ sym (ap (λ g. tally image g size) (added-k (ledger (s .log)) i k)))
           (λ j n. ap (λ c. c .sum) (A .other j n) ∙ E .basic .sums j ∙ sym (ap (λ g. tally image g size) (added-o (ledger (s .log)) i k j n)));
-      shown = λ p x. show p x (ℕ-discrete p i);
+      shown = λ p x. by-cases (ℕ-discrete p i)
+          (λ e. subst (λ q. T (enter (added i k) (ledger (s .log)) (label s′ q) q)) (sym e) (subst (λ m. T (enter (added i k) (ledger (s .log)) m i)) (sym at-i) (added-here (ledger (s .log)) i k)))
+          (λ d. subst (λ m. T (enter (added i k) (ledger (s .log)) m p)) (sym (at-o p d)) (added-up (ledger (s .log)) i k (label s p) p (E .basic .shown p (λ z. x (at-o p d ∙ z)))));
       places = λ j p x. place′ j p (added-down (ledger (s .log)) i k j p x);
       slots = λ j p x. slot j p (added-down (ledger (s .log)) i k j p x);
       width = wide;
     }
       where
-        show : (p : ℕ) → label s′ p ≢ 0 → Dec (p ≡ i) → T (enter (added i k) (ledger (s .log)) (label s′ p) p)
-        show p x (yes e) = subst (λ q. T (enter (added i k) (ledger (s .log)) (label s′ q) q)) (sym e) (subst (λ m. T (enter (added i k) (ledger (s .log)) m i)) (sym at-i) (added-here (ledger (s .log)) i k))
-        show p x (no d) =
-            subst (λ m. T (enter (added i k) (ledger (s .log)) m p)) (sym (at-o p d))
-            (added-up (ledger (s .log)) i k (label s p) p (E .basic .shown p (λ z. x (at-o p d ∙ z))))
-
         wide : length (s′ .labels) ≡ size
         wide = ap length (A .labels) ∙ length-set (s .labels) i k ∙ E .basic .width
 
@@ -228,9 +220,13 @@ module _ {image : List ℕ} {size : ℕ} {Gone : ℕ → Type 0} {Keyed : Type 0
           basic = B;
           flats = λ j p x. flat′ j p (down j p x);
           before = λ j p x. before′ j p (down j p x);
-          covered = λ p x. cover p (ℕ-discrete p i) x;
+          covered = λ p x. by-cases (ℕ-discrete p i)
+              (λ e. inr (k, subst (λ m. T (ledger (s′ .log) k m)) (sym e) here))
+              (λ d. elim (E .covered p (omega arith)) [ inl y ↦ inl y | inr y ↦ inr (y .0, up (y .0) p (y .1)) ]);
           never = λ j p x. never′ j p (down j p x);
-          lit = λ p x e. lit′ p x e (ℕ-discrete p i);
+          lit = λ p x e. by-cases (ℕ-discrete p i)
+              (λ z. zero-keyed (sym at-i ∙ sym (ap (label s′) z) ∙ e))
+              (λ z. E .lit p (omega arith) (sym (at-o p z) ∙ e));
           free = λ j p y x. free′ j p y (down j p x);
           room = A .next-room;
           some = omega (arith, E .some, A .next-up);
@@ -250,21 +246,9 @@ module _ {image : List ℕ} {size : ℕ} {Gone : ℕ → Type 0} {Keyed : Type 0
             before′ j p (inl x) = omega arith
             before′ j p (inr x) = omega (arith, E .before j p x)
 
-            cover : (p : ℕ) → Dec (p ≡ i) → p < suc i → Gone p ⊎ ((j : ℕ) × T (ledger (s′ .log) j p))
-            cover p (yes e) x = inr (k, subst (λ m. T (ledger (s′ .log) k m)) (sym e) here)
-            cover p (no d) x = keep′ (E .covered p (omega arith))
-              where
-                keep′ : Gone p ⊎ ((j : ℕ) × T (ledger (s .log) j p)) → Gone p ⊎ ((j : ℕ) × T (ledger (s′ .log) j p))
-                keep′ (inl y) = inl y
-                keep′ (inr y) = inr (y .0, up (y .0) p (y .1))
-
             never′ : (j p : ℕ) → ((j ≡ k) × (p ≡ i)) ⊎ T (ledger (s .log) j p) → Gone p → ⊥
             never′ j p (inl x) y = here-held (subst Gone (x .1) y)
             never′ j p (inr x) y = E .never j p x y
-
-            lit′ : (p : ℕ) → p < suc i → label s′ p ≡ 0 → Dec (p ≡ i) → Keyed
-            lit′ p x e (yes z) = zero-keyed (sym at-i ∙ sym (ap (label s′) z) ∙ e)
-            lit′ p x e (no z) = E .lit p (omega arith) (sym (at-o p z) ∙ e)
 
             free′ : (j p : ℕ) → s′ .next ≤ j → ((j ≡ k) × (p ≡ i)) ⊎ T (ledger (s .log) j p) → ⊥
             free′ j p y (inl x) = omega (arith, A .k-next)
@@ -324,11 +308,9 @@ module _ {image : List ℕ} {size : ℕ} {Gone : ℕ → Type 0} {Keyed : Type 0
     where
       pick : Dec (label s p ≡ 0) → label s p < s .next
       pick (yes e) = omega (arith, E .some)
-      pick (no d) = out (T-dec (ltb (label s p) (s .next)))
-        where
-          out : Dec (T (ltb (label s p) (s .next))) → label s p < s .next
-          out (yes z) = ltb→lt (label s p) (s .next) z
-          out (no z) = absurd (E .free (label s p) p (nltb→le (label s p) (s .next) (not-T (ltb (label s p) (s .next)) z)) (E .basic .shown p d))
+      pick (no d) = by-cases (T-dec (ltb (label s p) (s .next)))
+          (λ z. ltb→lt (label s p) (s .next) z)
+          (λ z. absurd (E .free (label s p) p (nltb→le (label s p) (s .next) (not-T (ltb (label s p) (s .next)) z)) (E .basic .shown p d)))
 
   module _ (i f t : ℕ) (s : State) (E : Early image size Gone Keyed i s) (n : f ≢ t) (hf : f < s .next) (ht : t < s .next) (t-keyed : t ≡ 0 → Keyed) where
     apart : (p : ℕ) → T (ledger (s .log) t p) → T (ledger (s .log) f p) → ⊥
@@ -376,11 +358,9 @@ module _ {image : List ℕ} {size : ℕ} {Gone : ℕ → Type 0} {Keyed : Type 0
         gone x = let l : 0 < area (cluster (combine f t s) f) = ltb→lt 0 (area (cluster (combine f t s) f)) x in omega (arith, ap length empty)
 
         rest : (j : ℕ) → j ≢ t → T (standing (combine f t s) j) → T (standing s j)
-        rest j d x = pick (ℕ-discrete j f)
-          where
-            pick : Dec (j ≡ f) → T (standing s j)
-            pick (yes e) = absurd (gone (subst (λ m. T (standing (combine f t s) m)) e x))
-            pick (no e) = subst (λ c. T (ltb 0 (area c))) (J .other j e d) x
+        rest j d x = by-cases (ℕ-discrete j f)
+            (λ e. absurd (gone (subst (λ m. T (standing (combine f t s) m)) e x)))
+            (λ e. subst (λ c. T (ltb 0 (area c))) (J .other j e d) x)
 
         few′ : (N : ℕ) → length (s .clusters) ≤ N → Dec (T (standing s f)) → countOf (standing (combine f t s)) N ≤ i
         few′ N l (yes y) = omega (arith, E .few N l, countOf-swap (standing (combine f t s)) (standing s) f t rest gone y N (omega (arith, f-slot)))
@@ -410,11 +390,9 @@ module _ {image : List ℕ} {size : ℕ} {Gone : ℕ → Type 0} {Keyed : Type 0
 
         cover : (p : ℕ) → Gone p ⊎ ((k : ℕ) × T (g k p)) → Gone p ⊎ ((k : ℕ) × T (enter (plain f t) g k p))
         cover p (inl y) = inl y
-        cover p (inr y) = inr (pick (ℕ-discrete (y .0) f))
-          where
-            pick : Dec (y .0 ≡ f) → (k : ℕ) × T (enter (plain f t) g k p)
-            pick (yes e) = (t, plain-to g f t n p (subst (λ m. T (g m p)) e (y .1)))
-            pick (no d) = (y .0, plain-up g f t n (y .0) p d (y .1))
+        cover p (inr y) = inr (by-cases (ℕ-discrete (y .0) f)
+            (λ e. (t, plain-to g f t n p (subst (λ m. T (g m p)) e (y .1))))
+            (λ d. (y .0, plain-up g f t n (y .0) p d (y .1))))
 
         never′ : (k p : ℕ) → ((k ≡ t) × T (g f p)) ⊎ T (g k p) → Gone p → ⊥
         never′ k p (inl y) = E .never f p (y .1)
@@ -458,12 +436,12 @@ module _ {image : List ℕ} {size : ℕ} {Gone : ℕ → Type 0} {Keyed : Type 0
 
       pick : (b : Bool) → eqb (l + 1) (s .next) ≡ b → (c : Bool) → Early image size Gone Keyed i (with (if b && c then s .next - 1 else s .next)) × (u < (if b && c then s .next - 1 else s .next))
       pick true e true =
-          let q : l + 1 ≡ s .next = eqb-is (l + 1) (s .next) e in
-          (keep (s .next - 1) (omega arith) (omega arith) (λ k p y x. low k p y x (ℕ-discrete k l)), omega arith)
-        where
-          low : (k p : ℕ) → s .next - 1 ≤ k → T (ledger (s .log) k p) → Dec (k ≡ l) → ⊥
-          low k p y x (yes z) = empty p (subst (λ m. T (ledger (s .log) m p)) z x)
-          low k p y x (no z) = let q : l + 1 ≡ s .next = eqb-is (l + 1) (s .next) e in E .free k p (omega arith) x
+          let q : l + 1 ≡ s .next = eqb-is (l + 1) (s .next) e in (
+            keep (s .next - 1) (omega arith) (omega arith) (λ k p y x. by-cases (ℕ-discrete k l)
+                (λ z. empty p (subst (λ m. T (ledger (s .log) m p)) z x))
+                (λ z. let q : l + 1 ≡ s .next = eqb-is (l + 1) (s .next) e in E .free k p (omega arith) x)),
+            omega arith,
+          )
       pick true e false = (keep (s .next) (omega arith) (E .some) (E .free), hu)
       pick false e c = (keep (s .next) (omega arith) (E .some) (E .free), hu)
 
@@ -496,9 +474,9 @@ module _ {image : List ℕ} {size : ℕ} {Gone : ℕ → Type 0} {Keyed : Type 0
           basic = E .basic;
           flats = E .flats;
           before = λ k p x. omega (arith, E .before k p x);
-          covered = λ p x. cover p (ℕ-discrete p i) x;
+          covered = λ p x. elim (ℕ-discrete p i) [ yes e ↦ inl (subst Gone (sym e) g) | no d ↦ E .covered p (omega arith) ];
           never = E .never;
-          lit = λ p x e. low p x e (ℕ-discrete p i);
+          lit = λ p x e. elim (ℕ-discrete p i) [ yes z ↦ q | no z ↦ E .lit p (omega arith) e ];
           free = E .free;
           room = E .room;
           some = E .some;
@@ -509,14 +487,6 @@ module _ {image : List ℕ} {size : ℕ} {Gone : ℕ → Type 0} {Keyed : Type 0
           short = omega (arith, E .short);
           few = λ N l. omega (arith, E .few N l);
         }
-          where
-            cover : (p : ℕ) → Dec (p ≡ i) → p < suc i → Gone p ⊎ ((k : ℕ) × T (ledger (s .log) k p))
-            cover p (yes e) x = inl (subst Gone (sym e) g)
-            cover p (no d) x = E .covered p (omega arith)
-
-            low : (p : ℕ) → p < suc i → label s p ≡ 0 → Dec (p ≡ i) → Keyed
-            low p x e (yes z) = q
-            low p x e (no z) = E .lit p (omega arith) e
 
         pick : (b : Bool) → isKey o image i ≡ b → (d : Bool) → isDiscard (o .keyingAction) ≡ d
             → (x : Bool) → sameAt o image (some i) (up w i) && sameAt o image (some i) (upLeft w i) ≡ x

@@ -224,11 +224,7 @@ countOf-add f g t s (suc n) = step (f n) (g n) (eqb n t) refl (s n) (countOf-add
     step true false false e h l = absurd (h (λ x. true≢false (sym (eqb-yes n t x) ∙ e)) tt)
 
 countOf-once : (t n : ℕ) → countOf (λ j. eqb j t) n ≤ 1
-countOf-once t n = pick (decLt t n)
-  where
-    pick : Dec (t < n) → countOf (λ j. eqb j t) n ≤ 1
-    pick (yes l) = omega (arith, countOf-one t n l)
-    pick (no l) = omega (arith, countOf-before t n (omega arith))
+countOf-once t n = elim (decLt t n) [ yes l ↦ omega (arith, countOf-one t n l) | no l ↦ omega (arith, countOf-before t n (omega arith)) ]
 
 pub countOf-more : (f g : ℕ → Bool) (t : ℕ) → ((j : ℕ) → j ≢ t → T (f j) → T (g j)) → (n : ℕ) → countOf f n ≤ countOf g n + 1
 countOf-more f g t s n = omega (arith, countOf-add f g t s n, countOf-once t n)

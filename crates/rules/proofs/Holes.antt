@@ -1,6 +1,6 @@
 -- Hole children: a cluster that names one is the cluster it deepened into, and names it once; a cluster that deepened never changes again.
 use mathlib.Core.Path.{_≡_, refl, sym, ap, _∙_, subst}
-use mathlib.Core.Logic.{_≢_}
+use mathlib.Core.Logic.{_≢_, by-cases}
 use mathlib.Core.Bool.{Bool, true, false}
 use mathlib.Core.List.{List, [], _∷_, _++_}
 use Prim.Native.Nat.{ℕ, _+_, _≤_, _<_}
@@ -29,19 +29,13 @@ pub record Holes (s : State) : Type 0 where
 
 -- a cluster inside no other is named nowhere
 pub root-unnamed : {s : State} → Holes s → (c : ℕ) → cluster s c .mergedInto ≡ 0 → (k : ℕ) → occurs c (cluster s k .holes) ≡ 0
-root-unnamed {s} H c r k = pick (ℕ-discrete (occurs c (cluster s k .holes)) 0)
-  where
-    pick : Dec (occurs c (cluster s k .holes) ≡ 0) → occurs c (cluster s k .holes) ≡ 0
-    pick (yes z) = z
-    pick (no z) = let y = H .inside k c z in absurd (y .0 (sym (y .1) ∙ r))
+root-unnamed {s} H c r k = elim (ℕ-discrete (occurs c (cluster s k .holes)) 0) [ yes z ↦ z | no z ↦ let y = H .inside k c z in absurd (y .0 (sym (y .1) ∙ r)) ]
 
 -- a hole child has a slot
 pub child-slot : {s : State} → Holes s → (k c : ℕ) → occurs c (cluster s k .holes) ≢ 0 → c < length (s .clusters)
-child-slot {s} H k c x = pick (decLt c (length (s .clusters)))
-  where
-    pick : Dec (c < length (s .clusters)) → c < length (s .clusters)
-    pick (yes l) = l
-    pick (no l) = let y = H .inside k c x in absurd (y .0 (sym (y .1) ∙ ap (λ d. d .mergedInto) (List·getD-eq-default (s .clusters) newCluster {n = c} (omega arith))))
+child-slot {s} H k c x = by-cases (decLt c (length (s .clusters)))
+    (λ l. l)
+    (λ l. let y = H .inside k c x in absurd (y .0 (sym (y .1) ∙ ap (λ d. d .mergedInto) (List·getD-eq-default (s .clusters) newCluster {n = c} (omega arith)))))
 
 pub put-holes : (k : ℕ) (s : State) → Holes s → Holes (put k s)
 unfolding put
@@ -82,18 +76,14 @@ module _ {image : List ℕ} {size : ℕ} (a k : ℕ) (s : State) (G : Going imag
 
     pub deepen-other-holes : (j : ℕ) → j ≢ t → cluster (deepen b k t s) j .holes ≡ cluster s j .holes
     unfolding mergedTo
-    deepen-other-holes j n = pick (ℕ-discrete j k)
-      where
-        pick : Dec (j ≡ k) → cluster (deepen b k t s) j .holes ≡ cluster s j .holes
-        pick (yes z) = subst (λ m. cluster (deepen b k t s) m .holes ≡ cluster s m .holes) (sym z) (ap (λ c. c .holes) (deepen-f k t s d ks ts b))
-        pick (no z) = ap (λ c. c .holes) (deepen-moved k t s d ks ts b .other j z n)
+    deepen-other-holes j n = by-cases (ℕ-discrete j k)
+        (λ z. subst (λ m. cluster (deepen b k t s) m .holes ≡ cluster s m .holes) (sym z) (ap (λ c. c .holes) (deepen-f k t s d ks ts b)))
+        (λ z. ap (λ c. c .holes) (deepen-moved k t s d ks ts b .other j z n))
 
     pub deepen-other-into : (j : ℕ) → j ≢ k → cluster (deepen b k t s) j .mergedInto ≡ cluster s j .mergedInto
-    deepen-other-into j n = pick (ℕ-discrete j t)
-      where
-        pick : Dec (j ≡ t) → cluster (deepen b k t s) j .mergedInto ≡ cluster s j .mergedInto
-        pick (yes z) = subst (λ m. cluster (deepen b k t s) m .mergedInto ≡ cluster s m .mergedInto) (sym z) (deepen-moved k t s d ks ts b .t-merged)
-        pick (no z) = ap (λ c. c .mergedInto) (deepen-moved k t s d ks ts b .other j n z)
+    deepen-other-into j n = by-cases (ℕ-discrete j t)
+        (λ z. subst (λ m. cluster (deepen b k t s) m .mergedInto ≡ cluster s m .mergedInto) (sym z) (deepen-moved k t s d ks ts b .t-merged))
+        (λ z. ap (λ c. c .mergedInto) (deepen-moved k t s d ks ts b .other j n z))
 
     pub deepen-into : cluster (deepen b k t s) k .mergedInto ≡ t
     unfolding mergedTo

@@ -311,11 +311,7 @@ module _ (o : RunnerConfig) (w h : ℕ) where
         last c [] (inl x) = inr x
         last c [] (inr i) = absurd i
         last c (x ∷ xs) (inl y) = inl (inl y)
-        last c (x ∷ xs) (inr i) = step (last c xs i)
-          where
-            step : In c xs ⊎ (c ≡ k) → In c (x ∷ xs) ⊎ (c ≡ k)
-            step (inl z) = inl (inr z)
-            step (inr z) = inr z
+        last c (x ∷ xs) (inr i) = elim (last c xs i) [ inl z ↦ inl (inr z) | inr z ↦ inr z ]
 
         either : (c : ℕ) → In c (cluster s t .holes) ⊎ (c ≡ k) → Child g′ u t c
         either c (inl i) = old c i

@@ -1,6 +1,6 @@
 -- Every moment of a run agrees with the ledger of its own log, and which states are moments.
 use mathlib.Core.Path.{_≡_, refl, sym, ap, _∙_, subst}
-use mathlib.Core.Logic.{_↔_, _≢_, _⊎_, inl, inr}
+use mathlib.Core.Logic.{_↔_, _≢_, _⊎_, inl, inr, by-cases}
 use mathlib.Core.Bool.{Bool, true, false, _&&_}
 use mathlib.Core.List.{List, [], _∷_, _++_}
 use Prim.Native.Nat.{ℕ, zero, suc, _+_, _*_, _<_}
@@ -38,11 +38,7 @@ find f (suc n) = pick (T-dec (f n)) (find f n)
     pick : Dec (T (f n)) → Dec ((p : ℕ) × (p < n) × T (f p)) → Dec ((p : ℕ) × (p < suc n) × T (f p))
     pick (yes t) r = yes (n, omega arith, t)
     pick (no t) (yes r) = yes (r .0, omega (arith, r .1), r .2)
-    pick (no t) (no r) = no (λ x. other x (ℕ-discrete (x .0) n))
-      where
-        other : (x : (p : ℕ) × (p < suc n) × T (f p)) → Dec (x .0 ≡ n) → ⊥
-        other x (yes e) = t (subst (λ m. T (f m)) e (x .2))
-        other x (no d) = r (x .0, omega (arith, x .1), x .2)
+    pick (no t) (no r) = no (λ x. elim (ℕ-discrete (x .0) n) [ yes e ↦ t (subst (λ m. T (f m)) e (x .2)) | no d ↦ r (x .0, omega (arith, x .1), x .2) ])
 
 both : (a b : Bool) → T a → T b → T (a && b)
 both true b x y = y
@@ -71,7 +67,9 @@ module _ (o : RunnerConfig) (w height : ℕ) (image : List ℕ) where
   compared a k s G A C = record {
     placed = λ j p x. (subst (λ m. p < m) (B .width) (B .places j p x), B .slots j p x);
     counts = counted B;
-    whole = λ i j. torn i j (find (λ p. ledger (s .log) i p && ledger (s .log) j p) (w * height));
+    whole = λ i j. by-cases (find (λ p. ledger (s .log) i p && ledger (s .log) j p) (w * height))
+        (λ x. let y = one-of (ledger (s .log) i (x .0)) (ledger (s .log) j (x .0)) (x .2) in inr (agrees S .whole i j (x .0) (y .0) (y .1)))
+        (λ n. inl (λ p x y. n (p, subst (λ m. p < m) (B .width) (B .places i p x), both (ledger (s .log) i p) (ledger (s .log) j p) x y)));
     distinct = agrees S .distinct;
     labelled = λ p l n. top p (here p (E .covered p l) n);
     discarded = λ j p d x. let y = A p .1 (j, x) in E .never (y .0) p (y .1) d;
@@ -95,11 +93,6 @@ module _ (o : RunnerConfig) (w height : ℕ) (image : List ℕ) where
       one p i j x y (yes e) = e
       one p i j x y (no d) =
           absurd (inside-not (λ k q. T (ledger (s .log) k q)) i j (S .forest .own-inner i j p x (S .forest .own-held j p y) d) (S .forest .own-inner j i p y (S .forest .own-held i p x) (λ e. d (sym e))))
-
-      torn : (i j : ℕ) → Dec ((p : ℕ) × (p < w * height) × T (ledger (s .log) i p && ledger (s .log) j p))
-          → ((p : ℕ) → T (ledger (s .log) i p) → T (ledger (s .log) j p) → ⊥) ⊎ (Holds (ledger (s .log)) i j ⊎ Holds (ledger (s .log)) j i)
-      torn i j (yes x) = let y = one-of (ledger (s .log) i (x .0)) (ledger (s .log) j (x .0)) (x .2) in inr (agrees S .whole i j (x .0) (y .0) (y .1))
-      torn i j (no n) = inl (λ p x y. n (p, subst (λ m. p < m) (B .width) (B .places i p x), both (ledger (s .log) i p) (ledger (s .log) j p) x y))
 
       here : (p : ℕ) → Discarded o image p ⊎ Some (ledger (stage1 o w height image .log)) p → (Discarded o image p → ⊥) → Some (ledger (s .log)) p
       here p (inl d) n = absurd (n d)
@@ -211,11 +204,7 @@ module _ (o : RunnerConfig) (w height : ℕ) (image : List ℕ) (P : State → T
       G = visit-going o w height a k s (K .going) pos
 
       p : P u
-      p = pick (ℕ-discrete (area (cluster s k)) a)
-        where
-          pick : Dec (area (cluster s k) ≡ a) → P u
-          pick (yes e) = step a k s (K .going) pos e (K .kept)
-          pick (no d) = subst P (sym (visit-idle o w height a k s d)) (K .kept)
+      p = elim (ℕ-discrete (area (cluster s k)) a) [ yes e ↦ step a k s (K .going) pos e (K .kept) | no d ↦ subst P (sym (visit-idle o w height a k s d)) (K .kept) ]
 
       go : Shares u s ⊎ ((x : Event) × (u .log ≡ x ∷ s .log) × Merges (x ∷ [])) → Tracked a (suc k) u (if ltb (length (s .log)) (length (u .log)) then u ∷ ms else ms)
       go (inl e) = subst (Tracked a (suc k) u) (sym (same-moments s u ms (e .2))) (record {
@@ -382,11 +371,12 @@ module _ (o : RunnerConfig) (w height : ℕ) (image : List ℕ) where
       J b k u = Going image (w * height) b k u × Keeps u
 
       one : (b k : ℕ) (u : State) → 0 < b → J b k u → J b (suc k) (visit o w height b k u)
-      one b k u pos R = (visit-going o w height b k u (R .0) pos, pick (ℕ-discrete (area (cluster u k)) b))
-        where
-          pick : Dec (area (cluster u k) ≡ b) → Keeps (visit o w height b k u)
-          pick (yes e) = visit-keeps b k u (R .0) pos e (R .1)
-          pick (no d) = subst Keeps (sym (visit-idle o w height b k u d)) (R .1)
+      one b k u pos R = (
+        visit-going o w height b k u (R .0) pos,
+        by-cases (ℕ-discrete (area (cluster u k)) b)
+            (λ e. visit-keeps b k u (R .0) pos e (R .1))
+            (λ d. subst Keeps (sym (visit-idle o w height b k u d)) (R .1)),
+      )
 
       slots : (b : ℕ) → 0 < b → (n : ℕ) (u : State) → J b 0 u → J b n (times n (visit o w height b) u)
       slots b pos n u R = times-keep (λ k v. J b k v) (visit o w height b) (λ k v H. one b k v pos H) u R n

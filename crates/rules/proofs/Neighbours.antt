@@ -1,6 +1,6 @@
 -- The neighbours of a cluster as a set, their number, and the target as the least by difference and number: what a scan with marks finds.
 use mathlib.Core.Path.{_≡_, refl, sym, ap, ap₂, _∙_, subst}
-use mathlib.Core.Logic.{_↔_, _≢_, _⊎_, inl, inr}
+use mathlib.Core.Logic.{_↔_, _≢_, _⊎_, inl, inr, by-cases}
 use mathlib.Core.Bool.{Bool, true, false, not, _||_}
 use mathlib.Core.List.{List, [], _∷_}
 use mathlib.Core.Option.{Option, some}
@@ -68,11 +68,7 @@ rising-count (x ∷ xs) n r b = omega (arith, rising-count xs n (r .1) (b .1), c
 -- the entry with the least key, and of several the least number
 pub least-is : (key : ℕ → ℕ) (x : ℕ) (xs : List ℕ) → Rising (x ∷ xs)
     → In (least key x xs) (x ∷ xs) × ((j : ℕ) → In j (x ∷ xs) → (key (least key x xs) < key j) ⊎ ((key (least key x xs) ≡ key j) × (least key x xs ≤ j)))
-least-is key x [] r = (inl refl, λ j i. one j i)
-  where
-    one : (j : ℕ) → (j ≡ x) ⊎ ⊥ → (key x < key j) ⊎ ((key x ≡ key j) × (x ≤ j))
-    one j (inl e) = inr (ap key (sym e), omega arith)
-    one j (inr i) = absurd i
+least-is key x [] r = (inl refl, λ j i. elim i [ inl e ↦ inr (ap key (sym e), omega arith) | inr i ↦ absurd i ])
 least-is key x (y ∷ ys) r = go (ltb (key y) (key x)) refl (least-is key y ys (r .1)) (least-is key x ys (r .0 .1, r .1 .1))
   where
     Is : ℕ → ℕ → List ℕ → Type 0
@@ -82,30 +78,20 @@ least-is key x (y ∷ ys) r = go (ltb (key y) (key x)) refl (least-is key y ys (
     Goal t = In t (x ∷ y ∷ ys) × ((j : ℕ) → In j (x ∷ y ∷ ys) → (key t < key j) ⊎ ((key t ≡ key j) × (t ≤ j)))
 
     right : key y < key x → (t : ℕ) → Is t y ys → Goal t
-    right l t q = (inr (q .0), λ j i. all j i)
+    right l t q = (inr (q .0), λ j i. elim i [ inl e ↦ inl (omega (arith, under (q .1 y (inl refl)), ap key e)) | inr i ↦ q .1 j i ])
       where
         under : (key t < key y) ⊎ ((key t ≡ key y) × (t ≤ y)) → key t < key x
         under (inl z) = omega arith
         under (inr z) = omega (arith, z .0)
 
-        all : (j : ℕ) → (j ≡ x) ⊎ In j (y ∷ ys) → (key t < key j) ⊎ ((key t ≡ key j) × (t ≤ j))
-        all j (inl e) = inl (omega (arith, under (q .1 y (inl refl)), ap key e))
-        all j (inr i) = q .1 j i
-
     left : key x ≤ key y → (t : ℕ) → Is t x ys → Goal t
-    left l t q = (place (q .0), λ j i. all j i)
+    left l t q = (elim (q .0) [ inl e ↦ inl e | inr i ↦ inr (inr i) ], λ j i. all j i)
       where
-        place : (t ≡ x) ⊎ In t ys → In t (x ∷ y ∷ ys)
-        place (inl e) = inl e
-        place (inr i) = inr (inr i)
-
         at-y : (j : ℕ) → j ≡ y → (key t < key x) ⊎ ((key t ≡ key x) × (t ≤ x)) → (key t < key j) ⊎ ((key t ≡ key j) × (t ≤ j))
         at-y j e (inl z) = inl (omega (arith, ap key e))
-        at-y j e (inr z) = side (decLt (key x) (key y))
-          where
-            side : Dec (key x < key y) → (key t < key j) ⊎ ((key t ≡ key j) × (t ≤ j))
-            side (yes u) = inl (omega (arith, ap key e, z .0))
-            side (no u) = inr (omega (arith, ap key e, z .0), omega (arith, z .1, r .0 .0))
+        at-y j e (inr z) = by-cases (decLt (key x) (key y))
+            (λ u. inl (omega (arith, ap key e, z .0)))
+            (λ u. inr (omega (arith, ap key e, z .0), omega (arith, z .1, r .0 .0)))
 
         all : (j : ℕ) → (j ≡ x) ⊎ ((j ≡ y) ⊎ In j ys) → (key t < key j) ⊎ ((key t ≡ key j) × (t ≤ j))
         all j (inl e) = q .1 j (inl e)
@@ -137,11 +123,7 @@ module _ (o : RunnerConfig) (w h : ℕ) (s : State) (own : ℕ) where
 
   labelsAt-in : (is : List (Option ℕ)) (found : List ℕ) (t : ℕ) → In t (labelsAt (s .labels) own is found) ↔ (In t found ⊎ Seen is t)
   unfolding labelsAt
-  labelsAt-in [] found t = (λ i. inl i, λ x. back x)
-    where
-      back : In t found ⊎ Seen [] t → In t found
-      back (inl i) = i
-      back (inr x) = absurd (x .2 .1)
+  labelsAt-in [] found t = (λ i. inl i, λ x. elim x [ inl i ↦ i | inr x ↦ absurd (x .2 .1) ])
   labelsAt-in (off ∷ is) found t = labelsAt-in is found t
   labelsAt-in (some i ∷ is) found t =
       let r = labelsAt-in is (if eqb (label s i) 0 || eqb (label s i) own then found else insert (label s i) found) t in
@@ -196,11 +178,7 @@ module _ (o : RunnerConfig) (w h : ℕ) (s : State) (own : ℕ) where
 
   around4-in : (ps found : List ℕ) (t : ℕ) → In t (labelsAround w h (s .labels) own ps found) ↔ (In t found ⊎ SeenFrom ps t)
   unfolding labelsAround
-  around4-in [] found t = (λ i. inl i, λ x. back x)
-    where
-      back : In t found ⊎ SeenFrom [] t → In t found
-      back (inl i) = i
-      back (inr x) = absurd (x .2 .1)
+  around4-in [] found t = (λ i. inl i, λ x. elim x [ inl i ↦ i | inr x ↦ absurd (x .2 .1) ])
   around4-in (p ∷ ps) found t =
       let r = around4-in ps (labelsAt (s .labels) own (sides w h p) found) t in
       let u = labelsAt-in (sides w h p) found t in

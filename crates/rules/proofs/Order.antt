@@ -1,6 +1,6 @@
 -- Stage 2 is repeated picking of the least pending slot.
 use mathlib.Core.Path.{_≡_, refl, sym, ap, _∙_, subst}
-use mathlib.Core.Logic.{_≢_, _⊎_, inl, inr}
+use mathlib.Core.Logic.{_≢_, _⊎_, inl, inr, by-cases}
 use mathlib.Core.Bool.{Bool, true, false, not, _&&_}
 use mathlib.Core.List.{List, _∷_}
 use mathlib.Core.Option.{Option, some}
@@ -56,22 +56,14 @@ better-best keys m (some i) x = go (eqb (getD keys m 0) 0) refl (ltb (getD keys 
   where
     old : (getD keys m 0 ≢ 0 → getD keys i 0 ≤ getD keys m 0) → (j : ℕ) → j < suc m → getD keys j 0 ≢ 0 → Dec (j ≡ m) → (getD keys i 0 < getD keys j 0) ⊎ ((getD keys i 0 ≡ getD keys j 0) × (i ≤ j))
     old f j l n (no z) = x .2 j (omega arith) n
-    old f j l n (yes z) = side (decLt (getD keys i 0) (getD keys j 0))
+    old f j l n (yes z) = elim (decLt (getD keys i 0) (getD keys j 0)) [ yes q ↦ inl q | no q ↦ inr (omega (arith, s, f (λ y. n (s ∙ y))), omega (arith, x .0)) ]
       where
         s : getD keys j 0 ≡ getD keys m 0
         s = ap (λ y. getD keys y 0) z
 
-        side : Dec (getD keys i 0 < getD keys j 0) → (getD keys i 0 < getD keys j 0) ⊎ ((getD keys i 0 ≡ getD keys j 0) × (i ≤ j))
-        side (yes q) = inl q
-        side (no q) = inr (omega (arith, s, f (λ y. n (s ∙ y))), omega (arith, x .0))
-
     new : getD keys m 0 < getD keys i 0 → (j : ℕ) → j < suc m → getD keys j 0 ≢ 0 → Dec (j ≡ m) → (getD keys m 0 < getD keys j 0) ⊎ ((getD keys m 0 ≡ getD keys j 0) × (m ≤ j))
     new l j b n (yes z) = inr (ap (λ y. getD keys y 0) (sym z), omega arith)
-    new l j b n (no z) = side (x .2 j (omega arith) n)
-      where
-        side : (getD keys i 0 < getD keys j 0) ⊎ ((getD keys i 0 ≡ getD keys j 0) × (i ≤ j)) → (getD keys m 0 < getD keys j 0) ⊎ ((getD keys m 0 ≡ getD keys j 0) × (m ≤ j))
-        side (inl q) = inl (omega arith)
-        side (inr q) = inl (omega arith)
+    new l j b n (no z) = elim (x .2 j (omega arith) n) [ inl q ↦ inl (omega arith) | inr q ↦ inl (omega arith) ]
 
     go : (c : Bool) → eqb (getD keys m 0) 0 ≡ c → (d : Bool) → ltb (getD keys m 0) (getD keys i 0) ≡ d → Best keys (suc m) (if not c && d then some m else some i)
     go true e d q = (omega (arith, x .0), x .1, λ j l n. old (λ y. absurd (y (eqb-is (getD keys m 0) 0 e))) j l n (ℕ-discrete j m))
@@ -123,11 +115,7 @@ pub record Queued (a k : ℕ) (s : State) (keys : List ℕ) : Type 0 where
 
 key-later : (a k x j v : ℕ) → (j ≡ k → x ≢ a) → KeyIs a k x j v → KeyIs a (suc k) x j v
 key-later a k x j v n (inl (inl l, e)) = inl (inl l, e)
-key-later a k x j v n (inl (inr l, e)) = go (ℕ-discrete j k)
-  where
-    go : Dec (j ≡ k) → KeyIs a (suc k) x j v
-    go (yes z) = absurd (n z (l .0))
-    go (no z) = inl (inr (l .0, omega arith), e)
+key-later a k x j v n (inl (inr l, e)) = elim (ℕ-discrete j k) [ yes z ↦ absurd (n z (l .0)) | no z ↦ inl (inr (l .0, omega arith), e) ]
 key-later a k x j v n (inr (inl l, e)) = inr (inl l, e)
 key-later a k x j v n (inr (inr l, e)) = inr (inr (l .0, omega arith), e)
 
@@ -137,11 +125,9 @@ skip-queued a k s keys n Q = record { keyed = λ j. key-later a k (area (cluster
 -- a slot with pixels has a key where its turn is to come, and is in the table
 module _ (a k : ℕ) (s : State) (keys : List ℕ) (Q : Queued a k s keys) (pos : 0 < a) where
   pub within : (j : ℕ) → 0 < area (cluster s j) → j < length keys
-  within j p = go (decLt j (length keys))
-    where
-      go : Dec (j < length keys) → j < length keys
-      go (yes l) = l
-      go (no l) = absurd (omega (arith, ap area (List·getD-eq-default (s .clusters) newCluster {n = j} (omega (arith, Q .wide)))))
+  within j p = by-cases (decLt j (length keys))
+      (λ l. l)
+      (λ l. absurd (omega (arith, ap area (List·getD-eq-default (s .clusters) newCluster {n = j} (omega (arith, Q .wide))))))
 
   module _ (e : area (cluster s k) ≡ a) where
     pub key-here : getD keys k 0 ≡ a
@@ -346,11 +332,7 @@ module _ (image : List ℕ) (size : ℕ) (o : RunnerConfig) (w h : ℕ) (q : Que
       small j p = omega (arith, within (suc a) N u (E .keys) (E .queued) (omega arith) j p, E .queued .wide, E .table, R .table)
 
       on : (j x v : ℕ) → (0 < x → j < N) → KeyIs (suc a) N x j v → KeyIs (suc (suc a)) 0 x j v
-      on j x v f (inl (inl l, y)) = go (ℕ-discrete x (suc (suc a)))
-        where
-          go : Dec (x ≡ suc (suc a)) → KeyIs (suc (suc a)) 0 x j v
-          go (yes z) = inl (inr (z, omega arith), y)
-          go (no z) = inl (inl (omega arith), y)
+      on j x v f (inl (inl l, y)) = elim (ℕ-discrete x (suc (suc a))) [ yes z ↦ inl (inr (z, omega arith), y) | no z ↦ inl (inl (omega arith), y) ]
       on j x v f (inl (inr l, y)) = absurd (omega (arith, f (omega (arith, l .0)), l .1))
       on j x v f (inr (z, y)) = inr (side j z, y)
 
@@ -430,15 +412,15 @@ module _ (o : RunnerConfig) (w h : ℕ) (image : List ℕ) where
 
   -- whenever no slot is pending, stage 2 is over
   pub turns-end : (m : ℕ) → pick (turns o w h m (start (prepareStage2 (stage1 o w h image))) .keys) ≡ off → turns o w h m (start (prepareStage2 (stage1 o w h image))) .now ≡ stage2 o w h (stage1 o w h image)
-  turns-end m e = go (decLt m (reached .count))
-    where
-      go : Dec (m < reached .count) → turns o w h m (start (prepareStage2 (stage1 o w h image))) .now ≡ stage2 o w h (stage1 o w h image)
-      go (yes l) = ap (λ q. q .now) (sym (turns-idle o w h (start (prepareStage2 (stage1 o w h image))) m e (reached .count) (omega arith)) ∙ reached .there)
-      go (no l) = ap (λ q. q .now) (turns-idle o w h (start (prepareStage2 (stage1 o w h image))) (reached .count) idle-at m (omega arith) ∙ reached .there)
+  turns-end m e = by-cases (decLt m (reached .count))
+      (λ l. ap (λ q. q .now) (sym (turns-idle o w h (start (prepareStage2 (stage1 o w h image))) m e (reached .count) (omega arith)) ∙ reached .there))
+      (λ l. ap (λ q. q .now) (turns-idle o w h (start (prepareStage2 (stage1 o w h image))) (reached .count) idle-at m (omega arith) ∙ reached .there))
 
   -- and that is so after at most 2 × w × h turns
   pub turns-few : (m k : ℕ) → pick (turns o w h m (start (prepareStage2 (stage1 o w h image))) .keys) ≡ some k → m < 2 * (w * h)
-  turns-few m k e = go (decLt m (reached .count))
+  turns-few m k e = by-cases (decLt m (reached .count))
+      (λ l. omega (arith, reached .total))
+      (λ l. absurd (differ (sym idle-at ∙ sym (ap (λ q. pick (q .keys)) (turns-idle o w h (start (prepareStage2 (stage1 o w h image))) (reached .count) idle-at m (omega arith))) ∙ e)))
     where
       differ : off ≡ some k → ⊥
       differ x = subst tell x tt
@@ -446,11 +428,6 @@ module _ (o : RunnerConfig) (w h : ℕ) (image : List ℕ) where
           tell : Option ℕ → Type 0
           tell off = Unit {0}
           tell (some j) = ⊥
-
-      go : Dec (m < reached .count) → m < 2 * (w * h)
-      go (yes l) = omega (arith, reached .total)
-      go (no l) =
-          absurd (differ (sym idle-at ∙ sym (ap (λ q. pick (q .keys)) (turns-idle o w h (start (prepareStage2 (stage1 o w h image))) (reached .count) idle-at m (omega arith))) ∙ e))
 
 -- ---- what holds before every turn
 

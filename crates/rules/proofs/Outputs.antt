@@ -1,6 +1,6 @@
 -- With no label 0 on the image, every standing cluster is put out, and the first output that holds a pixel owns it.
 use mathlib.Core.Path.{_≡_, refl, sym, ap, ap₂, _∙_, subst}
-use mathlib.Core.Logic.{_≢_, _⊎_, inl, inr}
+use mathlib.Core.Logic.{_≢_, _⊎_, inl, inr, by-cases}
 use mathlib.Core.Bool.{Bool, true, false, _||_}
 use mathlib.Core.List.{List, [], _∷_, _++_}
 use Prim.Native.Nat.{ℕ, zero, suc, _+_, _*_, _≤_, _<_}
@@ -42,11 +42,7 @@ in-snoc : (x k : ℕ) (xs : List ℕ) → In x (xs ++ (k ∷ [])) → In x xs �
 in-snoc x k [] (inl e) = inr e
 in-snoc x k [] (inr i) = absurd i
 in-snoc x k (y ∷ ys) (inl e) = inl (inl e)
-in-snoc x k (y ∷ ys) (inr i) = pick (in-snoc x k ys i)
-  where
-    pick : In x ys ⊎ (x ≡ k) → ((x ≡ y) ⊎ In x ys) ⊎ (x ≡ k)
-    pick (inl j) = inl (inr j)
-    pick (inr e) = inr e
+in-snoc x k (y ∷ ys) (inr i) = elim (in-snoc x k ys i) [ inl j ↦ inl (inr j) | inr e ↦ inr e ]
 
 pub first-find : (h : Held) (p j : ℕ) (xs : List ℕ) → In j xs → T (h j p) → (x : ℕ) × First h p xs x
 first-find h p j [] i t = absurd i
@@ -109,11 +105,9 @@ not-in x [] n = refl
 not-in x (y ∷ ys) n = omega (arith, ap bit (eqb-no x y (λ e. n (inl e))), not-in x ys (λ i. n (inr i)))
 
 once-more : (k : ℕ) (xs : List ℕ) → (In k xs → ⊥) → ((x : ℕ) → occurs x xs ≤ 1) → (x : ℕ) → occurs x (xs ++ (k ∷ [])) ≤ 1
-once-more k xs n a x = pick (ℕ-discrete x k)
-  where
-    pick : Dec (x ≡ k) → occurs x (xs ++ (k ∷ [])) ≤ 1
-    pick (yes e) = subst (λ m. occurs m (xs ++ (k ∷ [])) ≤ 1) (sym e) (omega (arith, occurs-append k xs (k ∷ []), not-in k xs n, ap bit (eqb-yes k k refl)))
-    pick (no d) = omega (arith, occurs-append x xs (k ∷ []), a x, ap bit (eqb-no x k d))
+once-more k xs n a x = by-cases (ℕ-discrete x k)
+    (λ e. subst (λ m. occurs m (xs ++ (k ∷ [])) ≤ 1) (sym e) (omega (arith, occurs-append k xs (k ∷ []), not-in k xs n, ap bit (eqb-yes k k refl))))
+    (λ d. omega (arith, occurs-append x xs (k ∷ []), a x, ap bit (eqb-no x k d)))
 
 -- ---- areas
 
@@ -207,11 +201,7 @@ skip-shows a k s W d = record {
   where
     pick : (j : ℕ) → Due a (suc k) s j → Due a k s j
     pick j (inl x) = inl x
-    pick j (inr x) = side (ℕ-discrete j k)
-      where
-        side : Dec (j ≡ k) → Due a k s j
-        side (yes e) = absurd (d (subst (λ m. area (cluster s m) ≡ a) e (x .0)))
-        side (no e) = inr (x .0, omega arith)
+    pick j (inr x) = elim (ℕ-discrete j k) [ yes e ↦ absurd (d (subst (λ m. area (cluster s m) ≡ a) e (x .0))) | no e ↦ inr (x .0, omega arith) ]
 
 module _ {image : List ℕ} {o : RunnerConfig} {size n : ℕ} where
   -- the first that holds p, after k is put out, owns p
@@ -222,7 +212,7 @@ module _ {image : List ℕ} {o : RunnerConfig} {size n : ℕ} where
       t = first-holds (ledger (s .log)) p x (s .outputs ++ (k ∷ [])) f
 
       mineOr : ((y : ℕ) → In y (s .outputs) → T (ledger (s .log) y p) → ⊥) → (j : ℕ) × T (owned (s .log) j p) → T (owned (s .log) x p)
-      mineOr none w = go (ℕ-discrete (w .0) x)
+      mineOr none w = elim (ℕ-discrete (w .0) x) [ yes e ↦ subst (λ m. T (owned (s .log) m p)) e (w .1) | no d ↦ rooted d (ℕ-discrete (cluster s (w .0) .mergedInto) 0) ]
         where
           held : T (ledger (s .log) (w .0) p)
           held = G .sound .forest .own-held (w .0) p (w .1)
@@ -234,10 +224,6 @@ module _ {image : List ℕ} {o : RunnerConfig} {size n : ℕ} where
               absurd (inside-not (λ a b. T (ledger (s .log) a b)) (w .0) x (G .sound .forest .own-inner (w .0) x p (w .1) t d)
               (subst (λ m. Inside (λ a b. T (ledger (s .log) a b)) x m) l (G .sound .forest .under-top x p t (λ e. d (sym (e ∙ l))))))
 
-          go : Dec (w .0 ≡ x) → T (owned (s .log) x p)
-          go (yes e) = subst (λ m. T (owned (s .log) m p)) e (w .1)
-          go (no d) = rooted d (ℕ-discrete (cluster s (w .0) .mergedInto) 0)
-
       pick : First (ledger (s .log)) p (s .outputs) x ⊎ (((y : ℕ) → In y (s .outputs) → T (ledger (s .log) y p) → ⊥) × (k ≡ x)) → T (owned (s .log) x p)
       pick (inl g) = W .firsts p x g
       pick (inr g) = mineOr (g .0) (G .sound .forest .owner x p t)
@@ -247,13 +233,13 @@ module _ {image : List ℕ} {o : RunnerConfig} {size n : ℕ} where
   put-shows a k s G W pos e₀ v = record {
     inner = λ j z r. in-left j (s .outputs) (k ∷ []) (W .inner j z r);
     outer = λ j z r u. out j z r u (ℕ-discrete j k);
-    over = λ x i r. done x r (in-snoc x k (s .outputs) i);
+    over = λ x i r. elim (in-snoc x k (s .outputs) i) [ inl i ↦ W .over x i r | inr e ↦ subst (Over o size a s) (sym e) v ];
     firsts = snoc-firsts a k s G W;
     bounds = W .bounds;
     lit = W .lit;
     table = W .table;
     once = once-more k (s .outputs) fresh-entry (W .once);
-    turned = λ x i r. turn x r (in-snoc x k (s .outputs) i);
+    turned = λ x i r. elim (in-snoc x k (s .outputs) i) [ inl i ↦ due-later a k s x (W .turned x i r) | inr z ↦ subst (Due a (suc k) s) (sym z) (inr (e₀, omega arith)) ];
   }
     where
       out : (j : ℕ) → Stands (ledger (s .log)) j → cluster s j .mergedInto ≡ 0 → Due a (suc k) s j → Dec (j ≡ k) → In j (s .outputs ++ (k ∷ []))
@@ -267,14 +253,6 @@ module _ {image : List ℕ} {o : RunnerConfig} {size n : ℕ} where
           never : Due a k s k → ⊥
           never (inl l) = omega arith
           never (inr l) = omega arith
-
-      turn : (x : ℕ) → cluster s x .mergedInto ≡ 0 → In x (s .outputs) ⊎ (x ≡ k) → Due a (suc k) s x
-      turn x r (inl i) = due-later a k s x (W .turned x i r)
-      turn x r (inr z) = subst (Due a (suc k) s) (sym z) (inr (e₀, omega arith))
-
-      done : (x : ℕ) → cluster s x .mergedInto ≡ 0 → In x (s .outputs) ⊎ (x ≡ k) → Over o size a s x
-      done x r (inl i) = W .over x i r
-      done x r (inr e) = subst (Over o size a s) (sym e) v
 
   module _ (a k : ℕ) (s : State) (G : Going image size a k s) (W : Shows o size n a k s) (pos : 0 < a) (e : area (cluster s k) ≡ a) (nh : a ≤ o .hierarchical)
       (t : ℕ) (N : Near s (label s (getD (cluster s k .pixels) 0 0)) t) where
@@ -338,11 +316,9 @@ module _ {image : List ℕ} {o : RunnerConfig} {size n : ℕ} where
       still-over x i r = no-root x i (sym (ap (λ c. c .mergedInto) (M .other x (not-k x i) (not-t x i))) ∙ r)
 
       new-lit : (p : ℕ) → p < size → label s′ p ≢ 0
-      new-lit p l z = pick (T-dec (ledger (s .log) k p))
-        where
-          pick : Dec (T (ledger (s .log) k p)) → ⊥
-          pick (yes x) = N .0 (sym (lab-from (G .sound .basic) k t ne apart t-slot′ M p x) ∙ z)
-          pick (no x) = W .lit p l (sym (lab-other (G .sound .basic) k t ne apart t-slot′ M p x) ∙ z)
+      new-lit p l z = by-cases (T-dec (ledger (s .log) k p))
+          (λ x. N .0 (sym (lab-from (G .sound .basic) k t ne apart t-slot′ M p x) ∙ z))
+          (λ x. W .lit p l (sym (lab-other (G .sound .basic) k t ne apart t-slot′ M p x) ∙ z))
 
     M₁ : Moved k t s (merge k t s)
     M₁ = merge-moved k t s ne (k-slot a k s G pos e t N) t-slot′
@@ -495,11 +471,9 @@ module _ {image : List ℕ} (o : RunnerConfig) (w h : ℕ) {n : ℕ} where
 
       due : (j : ℕ) → Stands (ledger (u .log)) j → Due (suc (suc a)) 0 u j → Due (suc a) N u j
       due j z (inr d) = absurd (omega arith)
-      due j z (inl d) = pick (ℕ-discrete (area (cluster u j)) (suc a))
-        where
-          pick : Dec (area (cluster u j) ≡ suc a) → Due (suc a) N u j
-          pick (yes x) = inr (x, omega (arith, end .0 .sound .basic .slots j (z .0) (z .1), W .table, G .1 .table))
-          pick (no x) = inl (omega arith)
+      due j z (inl d) = by-cases (ℕ-discrete (area (cluster u j)) (suc a))
+          (λ x. inr (x, omega (arith, end .0 .sound .basic .slots j (z .0) (z .1), W .table, G .1 .table)))
+          (λ x. inl (omega arith))
 
       next-due : (x : ℕ) → Due (suc a) N u x → Due (suc (suc a)) 0 u x
       next-due x (inl l) = inl (omega arith)
@@ -515,11 +489,7 @@ module _ {image : List ℕ} (o : RunnerConfig) (w h : ℕ) {n : ℕ} where
 
   -- at the end all that stands is put out
   pub all-out : (s : State) → Going image (w * h) (suc (w * h)) 0 s → Shows o (w * h) n (suc (w * h)) 0 s → (j : ℕ) → Stands (ledger (s .log)) j → In j (s .outputs)
-  all-out s G W j z = pick (ℕ-discrete (cluster s j .mergedInto) 0)
-    where
-      pick : Dec (cluster s j .mergedInto ≡ 0) → In j (s .outputs)
-      pick (yes r) = W .outer j z r (inl (omega (arith, area-le (G .sound .basic) j)))
-      pick (no r) = W .inner j z r
+  all-out s G W j z = elim (ℕ-discrete (cluster s j .mergedInto) 0) [ yes r ↦ W .outer j z r (inl (omega (arith, area-le (G .sound .basic) j))) | no r ↦ W .inner j z r ]
 
 pub areas-le : (size : ℕ) (cs : List Cluster) (l : List ℕ) → ((k : ℕ) → area (getD cs k newCluster) ≤ size) → All (λ x. x ≤ size) l → All (λ x. x ≤ size) (areasOf cs l)
 unfolding areasOf

@@ -213,7 +213,7 @@ module _ (image : List ℕ) (bytes : (i : ℕ) → getD image i 0 ≤ 255) where
     unfolding link
     ranged s S pos few I = record {
       slots = omega (arith, I .table);
-      labels = λ p. named p (ℕ-discrete (label s p) 0);
+      labels = λ p. elim (ℕ-discrete (label s p) 0) [ yes z ↦ omega (arith, I .table) | no z ↦ C .slots (label s p) p (C .shown p z) ];
       links = λ p. after-le (w * h) p (cluster s (label s p) .pixels) (pixels (label s p));
       firsts = λ k. begins-le (w * h) (cluster s k .pixels) (pixels k);
       areas = area-le C;
@@ -237,10 +237,6 @@ module _ (image : List ℕ) (bytes : (i : ℕ) → getD image i 0 ≤ 255) where
 
         pixels : (k : ℕ) → Below (w * h) (cluster s k .pixels)
         pixels k = occurs-below (w * h) (cluster s k .pixels) (λ p z. subst (λ m. p < m) (C .width) (C .places k p (bit-T (ledger (s .log) k p) (λ y. z (C .lists k p ∙ y)))))
-
-        named : (p : ℕ) → Dec (label s p ≡ 0) → label s p < length (s .clusters)
-        named p (yes z) = omega (arith, I .table)
-        named p (no z) = C .slots (label s p) p (C .shown p z)
 
   module _ (o : RunnerConfig) (w h : ℕ) where
     start-inner : Inner w h (length (stage1 o w h image .clusters)) (prepareStage2 (stage1 o w h image))

@@ -1,5 +1,6 @@
 -- What code may use when it takes its turn: all of it before turn m of a run, where slot k is picked.
 use mathlib.Core.Path.{_≡_, refl, ap, _∙_, subst}
+use mathlib.Core.Logic.{by-cases}
 use mathlib.Core.Bool.{not, _&&_, _||_}
 use mathlib.Core.List.{List, [], _∷_}
 use mathlib.Core.Option.{Option, some}
@@ -107,7 +108,9 @@ turns-grow o w h q m (suc n) l = go (ℕ-discrete m (suc n)) (turns-grow o w h q
 -- before and after every turn there are at most 2 × w × h entries
 pub turns-outputs : (o : RunnerConfig) (w h : ℕ) (image : List ℕ) (m : ℕ) → length (turns o w h m (start (prepareStage2 (stage1 o w h image))) .now .outputs) ≤ 2 * (w * h)
 unfolding drained
-turns-outputs o w h image m = go (decLt (2 * (w * h)) m)
+turns-outputs o w h image m = by-cases (decLt (2 * (w * h)) m)
+    (λ l. omega (arith, ap (λ u. length (u .now .outputs)) (turns-idle o w h q (2 * (w * h)) (idle (pick (turns o w h (2 * (w * h)) q .keys)) refl) m (omega arith)), all))
+    (λ l. omega (arith, turns-grow o w h q m (2 * (w * h)) (omega arith), all))
   where
     q : Queue
     q = start (prepareStage2 (stage1 o w h image))
@@ -118,10 +121,6 @@ turns-outputs o w h image m = go (decLt (2 * (w * h)) m)
     idle : (b : Option ℕ) → pick (turns o w h (2 * (w * h)) q .keys) ≡ b → pick (turns o w h (2 * (w * h)) q .keys) ≡ off
     idle off e = e
     idle (some k) e = absurd (let z : 2 * (w * h) < 2 * (w * h) = turns-few o w h image (2 * (w * h)) k e in omega arith)
-
-    go : Dec (2 * (w * h) < m) → length (turns o w h m q .now .outputs) ≤ 2 * (w * h)
-    go (yes l) = omega (arith, ap (λ u. length (u .now .outputs)) (turns-idle o w h q (2 * (w * h)) (idle (pick (turns o w h (2 * (w * h)) q .keys)) refl) m (omega arith)), all)
-    go (no l) = omega (arith, turns-grow o w h q m (2 * (w * h)) (omega arith), all)
 
 -- stage 2 adds no slot: before and after every turn there are those of stage 1
 pub turns-table : (o : RunnerConfig) (w h : ℕ) (image : List ℕ) (m : ℕ) → length (turns o w h m (start (prepareStage2 (stage1 o w h image))) .now .clusters) ≡ length (stage1 o w h image .clusters)

@@ -174,15 +174,11 @@ module _ {image : List ℕ} {size : ℕ} where
     stands = bit-T (ledger (s .log) k first) (λ z. occurs-first (cluster s k .pixels) (omega arith) (G .sound .basic .lists k first ∙ z))
 
     pub root : cluster s k .mergedInto ≡ 0
-    root = pick (ℕ-discrete (cluster s k .mergedInto) 0)
+    root = elim (ℕ-discrete (cluster s k .mergedInto) 0) [ yes z ↦ z | no z ↦ absurd (never (G .past k z)) ]
       where
         never : (area (cluster s k) < a) ⊎ ((area (cluster s k) ≡ a) × (k < k)) → ⊥
         never (inl x) = omega arith
         never (inr x) = omega arith
-
-        pick : Dec (cluster s k .mergedInto ≡ 0) → cluster s k .mergedInto ≡ 0
-        pick (yes z) = z
-        pick (no z) = absurd (never (G .past k z))
 
     pub mine : label s first ≡ k
     mine = G .sound .tops k first stands root

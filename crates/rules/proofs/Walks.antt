@@ -1,5 +1,6 @@
 -- One turn of a loop that goes along the links and counts down.
 use mathlib.Core.Path.{_≡_, refl}
+use mathlib.Core.Logic.{by-cases}
 use mathlib.Core.Bool.{Bool, true, false, _&&_, _||_}
 use mathlib.Core.List.{List, [], _∷_}
 use Prim.Native.Nat.{ℕ, zero, suc, _-_, _≤_, _<_}
@@ -49,11 +50,9 @@ pub reads-turn : (size : ℕ) (links : List ℕ) (at left : ℕ) → 0 < left
     → reads size links at left ≡ (if eqb at 0 || ltb size at then false else reads size links (getD links (at - 1) 0) (left - 1))
 reads-turn size links at zero l = absurd (not-suc-le-zero l)
 reads-turn size links zero (suc n) l = refl
-reads-turn size links (suc p) (suc n) l = rw (sub-one (suc n), sub-one (suc p), eqb-no (suc p) 0 (λ e. omega arith)) (by (decLt p size))
-  where
-    by : Dec (p < size) → (ltb p size && reads size links (getD links p 0) n) ≡ (if ltb size (suc p) then false else reads size links (getD links p 0) n)
-    by (yes h) = rw (is-true (ltb p size) (lt→ltb p size h), is-false (ltb size (suc p)) (λ t. omega (arith, ltb→lt size (suc p) t)))
-    by (no d) = rw (is-false (ltb p size) (λ t. d (ltb→lt p size t)), is-true (ltb size (suc p)) (lt→ltb size (suc p) (omega arith)))
+reads-turn size links (suc p) (suc n) l = rw (sub-one (suc n), sub-one (suc p), eqb-no (suc p) 0 (λ e. omega arith)) (by-cases (decLt p size)
+    (λ h. rw (is-true (ltb p size) (lt→ltb p size h), is-false (ltb size (suc p)) (λ t. omega (arith, ltb→lt size (suc p) t))))
+    (λ d. rw (is-false (ltb p size) (λ t. d (ltb→lt p size t)), is-true (ltb size (suc p)) (lt→ltb size (suc p) (omega arith)))))
 
 pub reads-none : (size : ℕ) (links : List ℕ) (at left : ℕ) → left ≤ 0 → reads size links at left ≡ true
 reads-none size links at zero l = refl

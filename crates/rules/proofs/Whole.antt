@@ -57,7 +57,7 @@ module _ {image : List ℕ} {size : ℕ} {h O : Held} {s : State} (S : Sound ima
 
   pub agrees : Kept image size h s
   agrees = record {
-    whole = λ j k p a b. torn j k p a b (ℕ-discrete j k);
+    whole = λ j k p a b. elim (ℕ-discrete j k) [ yes e ↦ inl (λ q x. subst (λ m. T (h m q)) (sym e) x) | no d ↦ side j k (S .forest .nested j k p a b d) ];
     distinct = λ j k n z a b. no-two j k a b (S .forest .nested j k (z .0) (z .1) (b (z .0) (z .1)) n);
     labelled = S .forest .top-held;
     largest = λ k p a n. fewer k (label s p) (S .forest .under-top k p a n);
@@ -69,10 +69,6 @@ module _ {image : List ℕ} {size : ℕ} {h O : Held} {s : State} (S : Sound ima
       side : (j k : ℕ) → Inside (λ k p. T (h k p)) j k ⊎ Inside (λ k p. T (h k p)) k j → Holds h j k ⊎ Holds h k j
       side j k (inl i) = inr (i .0)
       side j k (inr i) = inl (i .0)
-
-      torn : (j k p : ℕ) → T (h j p) → T (h k p) → Dec (j ≡ k) → Holds h j k ⊎ Holds h k j
-      torn j k p a b (yes e) = inl (λ q x. subst (λ m. T (h m q)) (sym e) x)
-      torn j k p a b (no d) = side j k (S .forest .nested j k p a b d)
 
       no-two : (j k : ℕ) → Holds h j k → Holds h k j → Inside (λ k p. T (h k p)) j k ⊎ Inside (λ k p. T (h k p)) k j → ⊥
       no-two j k a b (inl i) = i .1 .2 (a (i .1 .0) (i .1 .1))
