@@ -48,11 +48,7 @@ abbrev pub Begins : ℕ → Color → List ℕ → Type 0
 Begins n c l = (p : ℕ) → p < n → pixel l p ≡ c
 
 pub begins-more : (c : Color) (n : ℕ) (l : List ℕ) → 4 * n + 3 < length l → Begins n c l → Begins (n + 1) c (paintPixel c n l)
-begins-more c n l h f p b = go (ℕ-discrete p n)
-  where
-    go : Dec (p ≡ n) → pixel (paintPixel c n l) p ≡ c
-    go (yes e) = rw e (pixel-same c n l h)
-    go (no d) = pixel-other c n l p d ∙ f p (omega arith)
+begins-more c n l h f p b = elim (ℕ-discrete p n) [ yes e ↦ rw e (pixel-same c n l h) | no d ↦ pixel-other c n l p d ∙ f p (omega arith) ]
 
 pub begins-all : (c : Color) (size : ℕ) (l : List ℕ) → length l ≡ 4 * size → Begins size c l → l ≡ filled c size
 begins-all c size l e f =

@@ -3,7 +3,7 @@ use mathlib.Core.Path.{_≡_, refl, sym, ap, ap₂, _∙_, subst, fun-ext}
 use mathlib.Core.Logic.{_≢_, _⊎_, inl, inr, by-cases}
 use mathlib.Core.Bool.{Bool, false, _||_}
 use mathlib.Core.List.{List, [], _++_}
-use Prim.Native.Nat.{ℕ, _+_, _<_}
+use Prim.Native.Nat.{ℕ, _+_, _≤_, _<_}
 use native.Mathlib.Decide.{ℕ-discrete}
 use native.Mathlib.Omega.{arith}
 use lib.Dec.{T}
@@ -13,7 +13,7 @@ use Rattle.rules.specs.Color.{zeroSum, _⊕_}
 use Rattle.rules.specs.State.{State, Cluster, newCluster, cluster, label, relabel, withCluster, emptied, withResidue, mergedTo, deeper, combine, merge, deepen, plain, deepened}
 use Rattle.rules.specs.Ledger.{Held, enter}
 use Rattle.rules.specs.Claim.{bit, occurs, tally}
-use Rattle.rules.proofs.Facts.{is-false, T-dec, T-or, T-or-l, T-or-r, eqb-yes, eqb-no, bit-or, T-bit, occurs-append, relabel-other, relabel-in, length-relabel, tally-or, tally-none}
+use Rattle.rules.proofs.Facts.{is-false, T-dec, T-or, T-or-l, T-or-r, eqb-yes, eqb-no, bit-or, bit-T, T-bit, occurs-append, relabel-other, relabel-in, length-relabel, tally-or, tally-none}
 
 -- ---- the ledger after a merge
 
@@ -174,17 +174,32 @@ three f t P a b c k = pick (ℕ-discrete k f) (ℕ-discrete k t)
     pick (no d) (yes e) = subst P (sym e) b
     pick (no d) (no e) = c k d e
 
-module _ {image : List ℕ} {size : ℕ} {h : Held} {s s′ : State} (S : Basic image size h s) (f t : ℕ) (n : f ≢ t)
-    (apart : (p : ℕ) → T (h t p) → T (h f p) → ⊥) (ht : t < length (s .clusters)) (M : Moved f t s s′) where
+-- what the ledger says of a list
+module _ {image : List ℕ} {size : ℕ} {h : Held} {s : State} (S : Basic image size h s) (k p : ℕ) where
+  pub held-some : T (h k p) → occurs p (cluster s k .pixels) ≡ 1
+  held-some x = S .lists k p ∙ T-bit (h k p) x
+
+  pub held-none : (T (h k p) → ⊥) → occurs p (cluster s k .pixels) ≡ 0
+  held-none x = S .lists k p ∙ ap bit (is-false (h k p) x)
+
+  -- and a list of the ledger
+  pub some-held : occurs p (cluster s k .pixels) ≢ 0 → T (h k p)
+  some-held d = bit-T (h k p) (λ z. d (S .lists k p ∙ z))
+
+  pub once-held : occurs p (cluster s k .pixels) ≤ 1
+  once-held = by-cases (T-dec (h k p)) (λ x. omega (arith, held-some x)) (λ x. omega (arith, held-none x))
+
+-- the labels after a merge
+module _ {image : List ℕ} {size : ℕ} {h : Held} {s s′ : State} (S : Basic image size h s) (f t : ℕ) (M : Moved f t s s′) where
   pub lab-from : (q : ℕ) → T (h f q) → label s′ q ≡ t
   lab-from q x =
-      ap (λ l. getD l q 0) (M .labels) ∙ relabel-in t q (cluster s f .pixels) (s .labels) (S .places f q x)
-      (λ e. let y : bit (h f q) ≡ 1 = T-bit (h f q) x in omega (arith, S .lists f q))
+      ap (λ l. getD l q 0) (M .labels) ∙ relabel-in t q (cluster s f .pixels) (s .labels) (S .places f q x) (λ e. omega (arith, held-some S f q x))
 
   pub lab-other : (q : ℕ) → (T (h f q) → ⊥) → label s′ q ≡ label s q
-  lab-other q x =
-      ap (λ l. getD l q 0) (M .labels) ∙ relabel-other t q (cluster s f .pixels) (s .labels) (S .lists f q ∙ ap bit (is-false (h f q) x))
+  lab-other q x = ap (λ l. getD l q 0) (M .labels) ∙ relabel-other t q (cluster s f .pixels) (s .labels) (held-none S f q x)
 
+module _ {image : List ℕ} {size : ℕ} {h : Held} {s s′ : State} (S : Basic image size h s) (f t : ℕ) (n : f ≢ t)
+    (apart : (p : ℕ) → T (h t p) → T (h f p) → ⊥) (ht : t < length (s .clusters)) (M : Moved f t s s′) where
   t-lists : (p : ℕ) → occurs p (cluster s′ t .pixels) ≡ bit (h t p || h f p)
   t-lists p =
       ap (occurs p) (M .t-pixels) ∙ occurs-append p (cluster s t .pixels) (cluster s f .pixels)
@@ -212,9 +227,9 @@ module _ {image : List ℕ} {size : ℕ} {h : Held} {s s′ : State} (S : Basic 
     new-shown to up p x = pick (T-dec (h f p))
       where
         pick : Dec (T (h f p)) → T (h′ (label s′ p) p)
-        pick (yes z) = subst (λ m. T (h′ m p)) (sym (lab-from p z)) (to p z)
+        pick (yes z) = subst (λ m. T (h′ m p)) (sym (lab-from S f t M p z)) (to p z)
         pick (no z) =
-            let e : label s′ p ≡ label s p = lab-other p z in
+            let e : label s′ p ≡ label s p = lab-other S f t M p z in
             let y : T (h (label s p) p) = S .shown p (λ v. x (e ∙ v)) in
             subst (λ m. T (h′ m p)) (sym e) (up (label s p) p (λ v. z (subst (λ m. T (h m p)) v y)) y)
 

@@ -16,8 +16,8 @@ use Rattle.rules.specs.Stage2.{prepareStage2, visit, pass, passes}
 use Rattle.rules.specs.Run.{stage1, stage2}
 use Rattle.rules.specs.Claim.{countOf}
 use Rattle.rules.proofs.Facts.{standing, countOf-le, countOf-lt, countOf-swap}
-use Rattle.rules.proofs.Basic.{Moved, merge-f, merge-moved, deepen-f, deepen-moved}
-use Rattle.rules.proofs.Visits.{Going, Near, visit-cases, isolated-cases, visit-going, pass-going, times-keep, root, k≢t, k-slot, t-slot, target-root, target-stands}
+use Rattle.rules.proofs.Basic.{Moved}
+use Rattle.rules.proofs.Visits.{Going, Near, visit-cases, isolated-cases, visit-going, pass-going, times-keep, root, target-root, target-stands, merge-changes, deepen-changes, merge-from, deepen-from}
 use Rattle.rules.proofs.Early.{prepareStage2-going, settled}
 use Rattle.rules.proofs.Whole.{early, stage2-passes}
 use Rattle.rules.proofs.Outputs.{area-pos}
@@ -147,34 +147,38 @@ module _ {cap n : ℕ} where
       pub fewer-waits : countOf (waiting a (suc k) s′) n ≤ countOf (waiting a k s) n
       fewer-waits = countOf-swap (waiting a (suc k) s′) (waiting a k s) k t waited (λ x. gone (wait-out a (suc k) s′ k x .0)) here n fits
 
-    merge-bounded : (t : ℕ) → Near s (label s (getD (cluster s k .pixels) 0 0)) t → Bounded cap n a (suc k) (merge k t s)
-    unfolding merge emptied
-    merge-bounded t N = record { total = omega (arith, B .total, fewer-roots t N M gone (M .table), fewer-waits t N M gone (M .table)); table = M .table ∙ B .table }
+    -- a merge leaves fewer roots, and no more to wait
+    pub merge-fewer : (t : ℕ) → Near s (label s (getD (cluster s k .pixels) 0 0)) t
+        → (countOf (rooted (merge k t s)) n < countOf (rooted s) n) × (countOf (waiting a (suc k) (merge k t s)) n ≤ countOf (waiting a k s) n)
+    unfolding emptied
+    merge-fewer t N = (fewer-roots t N M gone (M .table), fewer-waits t N M gone (M .table))
       where
-        d : k ≢ t
-        d = k≢t a k s G pos e t N
-
         M : Moved k t s (merge k t s)
-        M = merge-moved k t s d (k-slot a k s G pos e t N) (t-slot a k s G pos e t N)
+        M = merge-changes a k s G pos e t N
 
         gone : Root (merge k t s) k → ⊥
-        gone r = omega (arith, r .0, ap area (merge-f k t s d (k-slot a k s G pos e t N) (t-slot a k s G pos e t N)))
+        gone r = omega (arith, r .0, ap area (merge-from a k s G pos e t N))
+
+    pub deepen-fewer : (t : ℕ) → Near s (label s (getD (cluster s k .pixels) 0 0)) t → (b : Bool)
+        → (countOf (rooted (deepen b k t s)) n < countOf (rooted s) n) × (countOf (waiting a (suc k) (deepen b k t s)) n ≤ countOf (waiting a k s) n)
+    unfolding mergedTo
+    deepen-fewer t N b = (fewer-roots t N M gone (M .table), fewer-waits t N M gone (M .table))
+      where
+        M : Moved k t s (deepen b k t s)
+        M = deepen-changes a k s G pos e t N b
+
+        gone : Root (deepen b k t s) k → ⊥
+        gone r = N .0 (sym (ap (λ c. c .mergedInto) (deepen-from a k s G pos e t N b)) ∙ r .1)
+
+    merge-bounded : (t : ℕ) → Near s (label s (getD (cluster s k .pixels) 0 0)) t → Bounded cap n a (suc k) (merge k t s)
+    unfolding merge
+    merge-bounded t N = let l = merge-fewer t N in record { total = omega (arith, B .total, l .0, l .1); table = merge-changes a k s G pos e t N .table ∙ B .table }
 
     deepen-bounded : (t : ℕ) → Near s (label s (getD (cluster s k .pixels) 0 0)) t → (hollow : Bool) → Bounded cap n a (suc k) (deepen hollow k t s)
-    unfolding deepen mergedTo
-    deepen-bounded t N hollow = record {
-      total = omega (arith, B .total, fewer-roots t N M gone (M .table), fewer-waits t N M gone (M .table), length-append (s .outputs) (k ∷ []));
-      table = M .table ∙ B .table;
-    }
-      where
-        d : k ≢ t
-        d = k≢t a k s G pos e t N
-
-        M : Moved k t s (deepen hollow k t s)
-        M = deepen-moved k t s d (k-slot a k s G pos e t N) (t-slot a k s G pos e t N) hollow
-
-        gone : Root (deepen hollow k t s) k → ⊥
-        gone r = N .0 (sym (ap (λ c. c .mergedInto) (deepen-f k t s d (k-slot a k s G pos e t N) (t-slot a k s G pos e t N) hollow)) ∙ r .1)
+    unfolding deepen
+    deepen-bounded t N hollow =
+        let l = deepen-fewer t N hollow in
+        record { total = omega (arith, B .total, l .0, l .1, length-append (s .outputs) (k ∷ [])); table = deepen-changes a k s G pos e t N hollow .table ∙ B .table }
 
   module _ {image : List ℕ} {size : ℕ} (o : RunnerConfig) (w h : ℕ) where
     visit-bounded : (a k : ℕ) (s : State) → Going image size a k s → Bounded cap n a k s → 0 < a → k < n → Bounded cap n a (suc k) (visit o w h a k s)

@@ -312,10 +312,11 @@ module _ {image : List ℕ} {size : ℕ} {Gone : ℕ → Type 0} {Keyed : Type 0
           (λ z. ltb→lt (label s p) (s .next) z)
           (λ z. absurd (E .free (label s p) p (nltb→le (label s p) (s .next) (not-T (ltb (label s p) (s .next)) z)) (E .basic .shown p d)))
 
-  module _ (i f t : ℕ) (s : State) (E : Early image size Gone Keyed i s) (n : f ≢ t) (hf : f < s .next) (ht : t < s .next) (t-keyed : t ≡ 0 → Keyed) where
-    apart : (p : ℕ) → T (ledger (s .log) t p) → T (ledger (s .log) f p) → ⊥
-    apart p a b = n (sym (E .flats f p b) ∙ E .flats t p a)
+  -- in stage 1 no two clusters share a pixel
+  pub flats-apart : {i : ℕ} {s : State} → Early image size Gone Keyed i s → (f t : ℕ) → f ≢ t → (p : ℕ) → T (ledger (s .log) t p) → T (ledger (s .log) f p) → ⊥
+  flats-apart E f t n p a b = n (sym (E .flats f p b) ∙ E .flats t p a)
 
+  module _ (i f t : ℕ) (s : State) (E : Early image size Gone Keyed i s) (n : f ≢ t) (hf : f < s .next) (ht : t < s .next) (t-keyed : t ≡ 0 → Keyed) where
     f-slot : f < length (s .clusters)
     f-slot = omega (arith, E .room)
 
@@ -332,7 +333,7 @@ module _ {image : List ℕ} {size : ℕ} {Gone : ℕ → Type 0} {Keyed : Type 0
     pub combine-early : Early image size Gone Keyed i (combine f t s)
     unfolding combine emptied withCluster J
     combine-early = record {
-      basic = plain-basic (E .basic) f t n apart t-slot J (ap (λ c. c .pixels) (combine-f f t s n f-slot t-slot)) (ap (λ c. c .sum) (combine-f f t s n f-slot t-slot));
+      basic = plain-basic (E .basic) f t n (flats-apart E f t n) t-slot J (ap (λ c. c .pixels) (combine-f f t s n f-slot t-slot)) (ap (λ c. c .sum) (combine-f f t s n f-slot t-slot));
       flats = λ k p x. flat′ k p (plain-down g f t n k p x .0) (plain-down g f t n k p x .1);
       before = λ k p x. before′ k p (plain-down g f t n k p x .1);
       covered = λ p x. cover p (E .covered p x);
@@ -381,8 +382,8 @@ module _ {image : List ℕ} {size : ℕ} {Gone : ℕ → Type 0} {Keyed : Type 0
         g = ledger (s .log)
 
         flat′ : (k p : ℕ) → k ≢ f → ((k ≡ t) × T (g f p)) ⊎ T (g k p) → label (combine f t s) p ≡ k
-        flat′ k p d (inl y) = lab-from (E .basic) f t n apart t-slot J p (y .1) ∙ sym (y .0)
-        flat′ k p d (inr y) = lab-other (E .basic) f t n apart t-slot J p (λ z. d (sym (E .flats k p y) ∙ E .flats f p z)) ∙ E .flats k p y
+        flat′ k p d (inl y) = lab-from (E .basic) f t J p (y .1) ∙ sym (y .0)
+        flat′ k p d (inr y) = lab-other (E .basic) f t J p (λ z. d (sym (E .flats k p y) ∙ E .flats f p z)) ∙ E .flats k p y
 
         before′ : (k p : ℕ) → ((k ≡ t) × T (g f p)) ⊎ T (g k p) → p < i
         before′ k p (inl y) = E .before f p (y .1)
@@ -399,8 +400,8 @@ module _ {image : List ℕ} {size : ℕ} {Gone : ℕ → Type 0} {Keyed : Type 0
         never′ k p (inr y) = E .never k p y
 
         lit′ : (p : ℕ) → p < i → label (combine f t s) p ≡ 0 → Dec (T (g f p)) → Keyed
-        lit′ p x e (yes z) = t-keyed (sym (lab-from (E .basic) f t n apart t-slot J p z) ∙ e)
-        lit′ p x e (no z) = E .lit p x (sym (lab-other (E .basic) f t n apart t-slot J p z) ∙ e)
+        lit′ p x e (yes z) = t-keyed (sym (lab-from (E .basic) f t J p z) ∙ e)
+        lit′ p x e (no z) = E .lit p x (sym (lab-other (E .basic) f t J p z) ∙ e)
 
         free′ : (k p : ℕ) → s .next ≤ k → ((k ≡ t) × T (g f p)) ⊎ T (g k p) → ⊥
         free′ k p z (inl y) = omega arith

@@ -1,7 +1,7 @@
 -- Clusters as a forest, with no state and no list: what holds before a merge holds after it.
 -- H k p: cluster k holds pixel p. O k p: p is in k's residue. lab p: the label of p.
 --
-use mathlib.Core.Path.{_≡_, refl, sym, _∙_, subst}
+use mathlib.Core.Path.{_≡_, sym, _∙_, subst}
 use mathlib.Core.Logic.{_≢_, _⊎_, inl, inr, by-cases}
 use Prim.Native.Nat.{ℕ}
 use native.Mathlib.Decide.{ℕ-discrete}

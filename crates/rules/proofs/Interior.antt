@@ -20,11 +20,11 @@ use Rattle.rules.specs.Order.{anyOf, interior, start, turns}
 use Rattle.rules.specs.Ledger.{Held, enter, ledger}
 use Rattle.rules.specs.Claim.{bit, occurs, Stands, Holds}
 use Rattle.rules.proofs.Facts.{is-true, T-or, T-or-l, T-or-r, eqb-yes, eqb-no, keep-le, same-bool}
-use Rattle.rules.proofs.Basic.{Basic, Moved, three, plain-f, plain-o, plain-up, deepened-o, deepened-up, deepened-to, merge-t, merge-moved, deepen-f, deepen-t, deepen-moved}
-use Rattle.rules.proofs.Visits.{Going, Near, visit-cases-why, isolated-cases, eqb-is, eqb-ne, stands, root, k≢t, k-slot, t-slot, target-root, target-stands}
+use Rattle.rules.proofs.Basic.{Basic, Moved, three, plain-f, plain-o, plain-up, deepened-o, deepened-up, deepened-to}
+use Rattle.rules.proofs.Visits.{Going, Near, visit-cases-why, isolated-cases, eqb-is, eqb-ne, stands, root, k≢t, target-root, target-stands, merge-changes, deepen-changes, merge-to, deepen-from, deepen-to}
 use Rattle.rules.proofs.Early.{settled}
 use Rattle.rules.proofs.Slots.{stage1-slots}
-use Rattle.rules.proofs.Outputs.{In}
+use Rattle.rules.proofs.Outputs.{In, in-snoc}
 use Rattle.rules.proofs.Order.{Turning, turns-keep, start-turning}
 
 -- ---- members
@@ -260,7 +260,7 @@ module _ (o : RunnerConfig) (w h : ℕ) where
     merge-hollowed = record {
       child = three k t (λ j. (c : ℕ) → Stands g′ j → In c (cluster u j .holes) → Child g′ u j c)
           (λ c z i. absurd (subst (λ x. T (x (z .0))) (plain-f (ledger (s .log)) k t d) (z .1)))
-          (λ c z i. let C = H .child t c (target-stands a k s G pos e t N) (subst (λ x. In c (x .holes)) (merge-t k t s d (k-slot a k s G pos e t N) (t-slot a k s G pos e t N)) i) in on t (λ x. d (sym x)) c C)
+          (λ c z i. let C = H .child t c (target-stands a k s G pos e t N) (subst (λ x. In c (x .holes)) (merge-to a k s G pos e t N) i) in on t (λ x. d (sym x)) c C)
           (λ j m n c z i. let C = H .child j c (z .0, subst (λ x. T (x (z .0))) (plain-o (ledger (s .log)) k t j m n) (z .1)) (subst (λ x. In c (x .holes)) (M .other j m n) i) in on j m c C);
     }
       where
@@ -271,7 +271,7 @@ module _ (o : RunnerConfig) (w h : ℕ) where
         g′ = enter (plain k t) (ledger (s .log))
 
         M : Moved k t s (merge k t s)
-        M = merge-moved k t s d (k-slot a k s G pos e t N) (t-slot a k s G pos e t N)
+        M = merge-changes a k s G pos e t N
 
         on : (j : ℕ) → j ≢ k → (c : ℕ) → Child (ledger (s .log)) s j c → Child g′ u j c
         on j m c C = child-kept (ledger (s .log)) g′ s u j c (M .other c (not-k j c C) (not-t j c C)) (plain-o (ledger (s .log)) k t c (not-k j c C) (not-t j c C)) (λ q. plain-up (ledger (s .log)) k t d j q m) C
@@ -280,8 +280,8 @@ module _ (o : RunnerConfig) (w h : ℕ) where
     unfolding deepen mergedTo withCluster deeper
     deepen-hollowed b r = record {
       child = three k t (λ j. (c : ℕ) → Stands g′ j → In c (cluster u j .holes) → Child g′ u j c)
-          (λ c z i. on k c (H .child k c (getD (cluster s k .pixels) 0 0, stands a k s G pos e) (subst (λ x. In c (x .holes)) (deepen-f k t s d (k-slot a k s G pos e t N) (t-slot a k s G pos e t N) b) i)))
-          (λ c z i. to c b refl (subst (λ x. In c (x .holes)) (deepen-t k t s d (k-slot a k s G pos e t N) (t-slot a k s G pos e t N) b) i))
+          (λ c z i. on k c (H .child k c (getD (cluster s k .pixels) 0 0, stands a k s G pos e) (subst (λ x. In c (x .holes)) (deepen-from a k s G pos e t N b) i)))
+          (λ c z i. to c b refl (subst (λ x. In c (x .holes)) (deepen-to a k s G pos e t N b) i))
           (λ j m n c z i. on j c (H .child j c (z .0, subst (λ x. T (x (z .0))) (deepened-o (ledger (s .log)) k t j n) (z .1)) (subst (λ x. In c (x .holes)) (M .other j m n) i)));
     }
       where
@@ -292,14 +292,14 @@ module _ (o : RunnerConfig) (w h : ℕ) where
         g′ = enter (deepened k t) (ledger (s .log))
 
         M : Moved k t s (deepen b k t s)
-        M = deepen-moved k t s d (k-slot a k s G pos e t N) (t-slot a k s G pos e t N) b
+        M = deepen-changes a k s G pos e t N b
 
         on : (j c : ℕ) → Child (ledger (s .log)) s j c → Child g′ u j c
         on j c C = child-kept (ledger (s .log)) g′ s u j c (M .other c (not-k j c C) (not-t j c C)) (deepened-o (ledger (s .log)) k t c (not-t j c C)) (λ q. deepened-up (ledger (s .log)) k t j q) C
 
         new : Child g′ u t k
         new = record {
-          inner = λ z. N .0 (sym (ap (λ x. x .mergedInto) (deepen-f k t s d (k-slot a k s G pos e t N) (t-slot a k s G pos e t N) b)) ∙ z);
+          inner = λ z. N .0 (sym (ap (λ x. x .mergedInto) (deepen-from a k s G pos e t N b)) ∙ z);
           held = λ q x. deepened-to (ledger (s .log)) k t q (subst (λ y. T (y q)) (deepened-o (ledger (s .log)) k t k d) x);
           core = subst Core (sym (deepened-o (ledger (s .log)) k t k d)) r;
         }
@@ -307,18 +307,8 @@ module _ (o : RunnerConfig) (w h : ℕ) where
         old : (c : ℕ) → In c (cluster s t .holes) → Child g′ u t c
         old c i = on t c (H .child t c (target-stands a k s G pos e t N) i)
 
-        last : (c : ℕ) (xs : List ℕ) → In c (xs ++ (k ∷ [])) → In c xs ⊎ (c ≡ k)
-        last c [] (inl x) = inr x
-        last c [] (inr i) = absurd i
-        last c (x ∷ xs) (inl y) = inl (inl y)
-        last c (x ∷ xs) (inr i) = elim (last c xs i) [ inl z ↦ inl (inr z) | inr z ↦ inr z ]
-
-        either : (c : ℕ) → In c (cluster s t .holes) ⊎ (c ≡ k) → Child g′ u t c
-        either c (inl i) = old c i
-        either c (inr x) = subst (Child g′ u t) (sym x) new
-
         to : (c : ℕ) (y : Bool) → b ≡ y → In c (if y then cluster s t .holes ++ (k ∷ []) else cluster s t .holes) → Child g′ u t c
-        to c true x i = either c (last c (cluster s t .holes) i)
+        to c true x i = elim (in-snoc c k (cluster s t .holes) i) [ inl i ↦ old c i | inr x ↦ subst (Child g′ u t) (sym x) new ]
         to c false x i = old c i
 
   -- every visit keeps it

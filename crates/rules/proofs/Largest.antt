@@ -1,6 +1,6 @@
 -- "No larger area is listed" is "no slot has a larger pixel count".
 use mathlib.Core.Path.{_≡_, refl, sym, ap, _∙_, subst}
-use mathlib.Core.Logic.{_≢_, _⊎_, inl, inr}
+use mathlib.Core.Logic.{_⊎_, inl, inr}
 use mathlib.Core.Bool.{Bool, true, false, _&&_}
 use mathlib.Core.List.{List, [], _∷_}
 use Prim.Native.Nat.{ℕ, zero, suc, _+_, _*_, _≤_, _<_, max}
@@ -17,8 +17,8 @@ use Rattle.rules.specs.Ledger.{ledger}
 use Rattle.rules.specs.Claim.{Stands}
 use Rattle.rules.specs.Order.{largest, start, turns}
 use Rattle.rules.proofs.Facts.{countOf-some, countOf-none, same-bool}
-use Rattle.rules.proofs.Basic.{Basic, Moved, three, merge-f, merge-moved, deepen-f, deepen-moved}
-use Rattle.rules.proofs.Visits.{Going, Near, visit-cases, isolated-cases, k≢t, k-slot, t-slot}
+use Rattle.rules.proofs.Basic.{Basic, Moved, three}
+use Rattle.rules.proofs.Visits.{Going, Near, visit-cases, isolated-cases, merge-changes, deepen-changes, merge-from, deepen-from}
 use Rattle.rules.proofs.Early.{settled}
 use Rattle.rules.proofs.Whole.{early}
 use Rattle.rules.proofs.Outputs.{In, area-countOf}
@@ -111,13 +111,11 @@ module _ (k t : ℕ) (s u : State) (M : Moved k t s u) where
 module _ {image : List ℕ} {size : ℕ} (a k : ℕ) (s : State) (G : Going image size a k s) (pos : 0 < a) (e : area (cluster s k) ≡ a) (t : ℕ) (N : Near s (label s (getD (cluster s k .pixels) 0 0)) t) where
   pub merge-largest : largest (merge k t s .clusters) ≡ max (largest (s .clusters)) (area (cluster (merge k t s) t))
   unfolding emptied
-  merge-largest = let d = k≢t a k s G pos e t N in let x = k-slot a k s G pos e t N in let y = t-slot a k s G pos e t N in
-      moved-largest k t s (merge k t s) (merge-moved k t s d x y) (omega (arith, ap area (merge-f k t s d x y)))
+  merge-largest = moved-largest k t s (merge k t s) (merge-changes a k s G pos e t N) (omega (arith, ap area (merge-from a k s G pos e t N)))
 
   pub deepen-largest : (b : Bool) → largest (deepen b k t s .clusters) ≡ max (largest (s .clusters)) (area (cluster (deepen b k t s) t))
   unfolding mergedTo
-  deepen-largest b = let d = k≢t a k s G pos e t N in let x = k-slot a k s G pos e t N in let y = t-slot a k s G pos e t N in
-      moved-largest k t s (deepen b k t s) (deepen-moved k t s d x y b) (omega (arith, ap area (deepen-f k t s d x y b)))
+  deepen-largest b = moved-largest k t s (deepen b k t s) (deepen-changes a k s G pos e t N b) (omega (arith, ap area (deepen-from a k s G pos e t N b)))
 
 prepareStage2-topped : (s : State) → Topped (prepareStage2 s)
 unfolding prepareStage2 withResidue
@@ -135,13 +133,13 @@ module _ {image : List ℕ} {size : ℕ} where
       visit-cases o w h a k s (λ u. Listed u × Topped u) (λ x. R) (λ z l. out) (λ z l n. isolated-cases o w h a k s (λ u. Listed u × Topped u) out R)
       (λ z l t N. (
         merge-listed a k s G (R .0) pos e t N,
-        moved-topped k t s (merge k t s) (merge-moved k t s (k≢t a k s G pos e t N) (k-slot a k s G pos e t N) (t-slot a k s G pos e t N)) (R .1)
-            (ap (λ x. insert x (s .listed)) (sym (ap length (merge-moved k t s (k≢t a k s G pos e t N) (k-slot a k s G pos e t N) (t-slot a k s G pos e t N) .t-pixels)))),
+        moved-topped k t s (merge k t s) (merge-changes a k s G pos e t N) (R .1)
+            (ap (λ x. insert x (s .listed)) (sym (ap length (merge-changes a k s G pos e t N .t-pixels)))),
       ))
       (λ z l t N b. (
         deepen-listed a k s G (R .0) pos e t N b,
-        moved-topped k t s (deepen b k t s) (deepen-moved k t s (k≢t a k s G pos e t N) (k-slot a k s G pos e t N) (t-slot a k s G pos e t N) b) (R .1)
-            (ap (λ x. insert x (s .listed)) (sym (ap length (deepen-moved k t s (k≢t a k s G pos e t N) (k-slot a k s G pos e t N) (t-slot a k s G pos e t N) b .t-pixels)))),
+        moved-topped k t s (deepen b k t s) (deepen-changes a k s G pos e t N b) (R .1)
+            (ap (λ x. insert x (s .listed)) (sym (ap length (deepen-changes a k s G pos e t N b .t-pixels)))),
       ))
     where
       out : Listed (put k s) × Topped (put k s)

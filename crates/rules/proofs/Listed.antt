@@ -3,7 +3,7 @@ use mathlib.Core.Path.{_≡_, refl, sym, ap, _∙_, subst}
 use mathlib.Core.Logic.{_≢_, _⊎_, inl, inr}
 use mathlib.Core.Bool.{Bool, true, false}
 use mathlib.Core.List.{List, [], _∷_, _++_}
-use Prim.Native.Nat.{ℕ, zero, suc, _+_, _<_}
+use Prim.Native.Nat.{ℕ, zero, suc, _<_}
 use native.Mathlib.Omega.{arith}
 use lib.Dec.{T, eqb, ltb}
 use lib.ListN.{length, getD}
@@ -14,8 +14,8 @@ use Rattle.rules.specs.Stage2.{areasOf, prepareStage2, visit, pass, pass
 use Rattle.rules.specs.Ledger.{Held, enter, ledger}
 use Rattle.rules.specs.Claim.{Stands}
 use Rattle.rules.proofs.Facts.{eqb-no}
-use Rattle.rules.proofs.Basic.{Moved, three, plain-down, plain-o, deepened-o, merge-moved, deepen-f, deepen-moved}
-use Rattle.rules.proofs.Visits.{Going, Near, visit-cases, isolated-cases, visit-going, pass-going, times-keep, eqb-is, stands, root, k≢t, k-slot, t-slot}
+use Rattle.rules.proofs.Basic.{Moved, three, plain-down, plain-o, deepened-o}
+use Rattle.rules.proofs.Visits.{Going, Near, visit-cases, isolated-cases, visit-going, pass-going, times-keep, eqb-is, stands, root, k≢t, merge-changes, deepen-changes, deepen-from}
 use Rattle.rules.proofs.Early.{Early, settled}
 use Rattle.rules.proofs.Outputs.{In, area-pos}
 
@@ -66,14 +66,11 @@ put-listed k s L = record { areas = L .areas }
 
 module _ {image : List ℕ} {size : ℕ} where
   module _ (a k : ℕ) (s : State) (G : Going image size a k s) (L : Listed s) (pos : 0 < a) (e : area (cluster s k) ≡ a) (t : ℕ) (N : Near s (label s (getD (cluster s k .pixels) 0 0)) t) where
-    d : k ≢ t
-    d = k≢t a k s G pos e t N
-
     pub merge-listed : Listed (merge k t s)
     unfolding merge withCluster withResidue
     merge-listed = record {
       areas = three k t (λ j. Stands h′ j → cluster s′ j .mergedInto ≡ 0 → In (area (cluster s′ j)) (insert new (s .listed)))
-          (λ z r. absurd (plain-down (ledger (s .log)) k t d k (z .0) (z .1) .0 refl))
+          (λ z r. absurd (plain-down (ledger (s .log)) k t (k≢t a k s G pos e t N) k (z .0) (z .1) .0 refl))
           (λ z r. subst (λ x. In x (insert new (s .listed))) (sym (ap length (M .t-pixels))) (insert-new new (s .listed)))
           (λ j u v z r. insert-old (area (cluster s′ j)) new (s .listed) (subst (λ c. In (area c) (s .listed)) (sym (M .other j u v))
           (L .areas j (z .0, subst (λ g. T (g (z .0))) (plain-o (ledger (s .log)) k t j u v) (z .1)) (sym (ap (λ c. c .mergedInto) (M .other j u v)) ∙ r))));
@@ -89,13 +86,13 @@ module _ {image : List ℕ} {size : ℕ} where
         new = length (cluster s t .pixels ++ cluster s k .pixels)
 
         M : Moved k t s (merge k t s)
-        M = merge-moved k t s d (k-slot a k s G pos e t N) (t-slot a k s G pos e t N)
+        M = merge-changes a k s G pos e t N
 
     pub deepen-listed : (hollow : Bool) → Listed (deepen hollow k t s)
     unfolding deepen withCluster deeper mergedTo
     deepen-listed hollow = record {
       areas = three k t (λ j. Stands h′ j → cluster s′ j .mergedInto ≡ 0 → In (area (cluster s′ j)) (insert new (s .listed)))
-          (λ z r. absurd (N .0 (sym (ap (λ c. c .mergedInto) (deepen-f k t s d (k-slot a k s G pos e t N) (t-slot a k s G pos e t N) hollow)) ∙ r)))
+          (λ z r. absurd (N .0 (sym (ap (λ c. c .mergedInto) (deepen-from a k s G pos e t N hollow)) ∙ r)))
           (λ z r. subst (λ x. In x (insert new (s .listed))) (sym (ap length (M .t-pixels))) (insert-new new (s .listed)))
           (λ j u v z r. insert-old (area (cluster s′ j)) new (s .listed) (subst (λ c. In (area c) (s .listed)) (sym (M .other j u v))
           (L .areas j (z .0, subst (λ g. T (g (z .0))) (deepened-o (ledger (s .log)) k t j v) (z .1)) (sym (ap (λ c. c .mergedInto) (M .other j u v)) ∙ r))));
@@ -111,7 +108,7 @@ module _ {image : List ℕ} {size : ℕ} where
         new = length (cluster s t .pixels ++ cluster s k .pixels)
 
         M : Moved k t s (deepen hollow k t s)
-        M = deepen-moved k t s d (k-slot a k s G pos e t N) (t-slot a k s G pos e t N) hollow
+        M = deepen-changes a k s G pos e t N hollow
 
   module _ (o : RunnerConfig) (w h : ℕ) where
     pub pass-listed : (a : ℕ) (s : State) → Going image size (suc a) 0 s × Listed s → Going image size (suc (suc a)) 0 (pass o w h (suc a) s) × Listed (pass o w h (suc a) s)

@@ -3,7 +3,7 @@ use mathlib.Core.Path.{_≡_, refl, sym, ap, _∙_, subst}
 use mathlib.Core.Logic.{_↔_, _≢_, _⊎_, inl, inr, by-cases}
 use mathlib.Core.Bool.{Bool, true, false, _&&_}
 use mathlib.Core.List.{List, [], _∷_, _++_}
-use Prim.Native.Nat.{ℕ, zero, suc, _+_, _*_, _<_}
+use Prim.Native.Nat.{ℕ, zero, suc, _*_, _<_}
 use native.Mathlib.Decide.{ℕ-discrete}
 use native.Mathlib.Omega.{arith}
 use lib.Dec.{T, ltb, lt→ltb, ltb→lt}
@@ -15,7 +15,7 @@ use Rattle.rules.specs.Stage2.{visit, pass, passes, prepareStage2}
 use Rattle.rules.specs.Run.{run, stage1, stage2, dropEmpty}
 use Rattle.rules.specs.Layout.{link}
 use Rattle.rules.specs.Ledger.{Held, ledger}
-use Rattle.rules.specs.Claim.{countOf, Stands, Holds}
+use Rattle.rules.specs.Claim.{countOf, Stands}
 use Rattle.rules.specs.Moments.{Trace, begun, noted, notedPass, notedPasses, traced, moments, suffixes, Merges, logs, Each, Newest, Oldest}
 use Rattle.rules.specs.Demand3.{Discarded, Agrees}
 use Rattle.rules.proofs.Owned.{owned}

@@ -13,19 +13,19 @@ use lib.ListN.{length, getD, set, length-set, length-append, length-map, List·g
 use lib.Seq.{getD-set-same, getD-set-other}
 use Rattle.rules.specs.Base.{if_then_else_, times}
 use Rattle.rules.specs.Color.{RunnerConfig, keyingOn}
-use Rattle.rules.specs.State.{State, Event, newCluster, cluster, label, area, emptied, mergedTo, withResidue, put, merge, deepen, plain, deepened}
+use Rattle.rules.specs.State.{State, Event, newCluster, cluster, area, emptied, mergedTo, withResidue, put, merge, deepen, plain, deepened}
 use Rattle.rules.specs.Stage2.{neighbours, decide, visit, pass, passes, prepareStage2}
 use Rattle.rules.specs.Run.{stage1, stage2}
 use Rattle.rules.specs.Claim.{countOf}
 use Rattle.rules.specs.Order.{better, pick, target, rekey, Queue, queue, start, visited, turnOf, turn, turns, drained}
 use Rattle.rules.specs.Demand3.{Discarded}
 use Rattle.rules.proofs.Facts.{standing, eqb-no, countOf-le, countOf-lt}
-use Rattle.rules.proofs.Basic.{Moved, three, merge-f, merge-moved, deepen-f, deepen-moved}
-use Rattle.rules.proofs.Visits.{Going, later, Near, visit-cases, isolated-cases, visit-going, times-keep, eqb-is, eqb-ne, k≢t, k-slot, t-slot, target-stands}
+use Rattle.rules.proofs.Basic.{Moved, three}
+use Rattle.rules.proofs.Visits.{Going, later, visit-cases, isolated-cases, visit-going, times-keep, eqb-is, eqb-ne, k≢t, t-slot, target-stands, merge-changes, merge-from, deepen-changes, deepen-from}
 use Rattle.rules.proofs.Early.{Early, prepareStage2-going, settled}
 use Rattle.rules.proofs.Whole.{early, stage2-passes}
 use Rattle.rules.proofs.Outputs.{area-pos, area-le}
-use Rattle.rules.proofs.Bounds.{Bounded, Root, rooted, waiting, root-out, wait-out, later-waits, here, not-then, fewer-roots, fewer-waits, next-waits}
+use Rattle.rules.proofs.Bounds.{Bounded, Root, rooted, waiting, root-out, wait-out, later-waits, here, not-then, next-waits, merge-fewer, deepen-fewer}
 
 -- ---- the pick
 
@@ -207,12 +207,10 @@ module _ {image : List ℕ} {size : ℕ} (a k : ℕ) (s : State) (keys : List �
       (λ z l n. isolated-cases o w h a k s (λ u. Queued a (suc k) u (rekey k s u keys)) (still-queued (put k s) refl refl) (still-queued s refl refl))
       (λ z l t N. let y = target-stands a k s G pos e t N in
       moved-queued t (merge k t s) (plain k t) (k≢t a k s G pos e t N) (t-slot a k s G pos e t N) (area-pos (G .sound .basic) t (y .0) (y .1))
-      (merge-moved k t s (k≢t a k s G pos e t N) (k-slot a k s G pos e t N) (t-slot a k s G pos e t N)) refl refl
-      (inl (omega (arith, ap area (merge-f k t s (k≢t a k s G pos e t N) (k-slot a k s G pos e t N) (t-slot a k s G pos e t N))))))
+      (merge-changes a k s G pos e t N) refl refl (inl (omega (arith, ap area (merge-from a k s G pos e t N)))))
       (λ z l t N b. let y = target-stands a k s G pos e t N in
       moved-queued t (deepen b k t s) (deepened k t) (k≢t a k s G pos e t N) (t-slot a k s G pos e t N) (area-pos (G .sound .basic) t (y .0) (y .1))
-      (deepen-moved k t s (k≢t a k s G pos e t N) (k-slot a k s G pos e t N) (t-slot a k s G pos e t N) b) refl refl
-      (inr (ap area (deepen-f k t s (k≢t a k s G pos e t N) (k-slot a k s G pos e t N) (t-slot a k s G pos e t N) b) ∙ e, omega arith)))
+      (deepen-changes a k s G pos e t N b) refl refl (inr (ap area (deepen-from a k s G pos e t N b) ∙ e, omega arith)))
 
   -- the turn is that visit
   pub turn-visits : (o : RunnerConfig) (w h : ℕ) → turn o w h (queue s keys) ≡ queue (visit o w h a k s) (rekey k s (visit o w h a k s) keys)
@@ -237,27 +235,10 @@ module _ {image : List ℕ} {size : ℕ} (n a k : ℕ) (s : State) (G : Going im
   put-falls = still-falls
 
   visit-falls : (o : RunnerConfig) (w h : ℕ) → Falls (visit o w h a k s)
-  unfolding merge deepen emptied mergedTo
   visit-falls o w h =
-      visit-cases o w h a k s Falls (λ x. still-falls) (λ z l. put-falls) (λ z l y. isolated-cases o w h a k s Falls put-falls still-falls) plainly deeply
-    where
-      plainly : area (cluster s k) ≡ a → a ≤ o .hierarchical → (t : ℕ) → Near s (label s (getD (cluster s k .pixels) 0 0)) t → Falls (merge k t s)
-      plainly z l t N = (omega (arith, fewer-roots a k s G B pos e fits t N M gone (M .table), fewer-waits a k s G B pos e fits t N M gone (M .table)), M .table ∙ table)
-        where
-          M : Moved k t s (merge k t s)
-          M = merge-moved k t s (k≢t a k s G pos e t N) (k-slot a k s G pos e t N) (t-slot a k s G pos e t N)
-
-          gone : Root (merge k t s) k → ⊥
-          gone r = omega (arith, r .0, ap area (merge-f k t s (k≢t a k s G pos e t N) (k-slot a k s G pos e t N) (t-slot a k s G pos e t N)))
-
-      deeply : area (cluster s k) ≡ a → a ≤ o .hierarchical → (t : ℕ) → Near s (label s (getD (cluster s k .pixels) 0 0)) t → (b : Bool) → Falls (deepen b k t s)
-      deeply z l t N b = (omega (arith, fewer-roots a k s G B pos e fits t N M gone (M .table), fewer-waits a k s G B pos e fits t N M gone (M .table)), M .table ∙ table)
-        where
-          M : Moved k t s (deepen b k t s)
-          M = deepen-moved k t s (k≢t a k s G pos e t N) (k-slot a k s G pos e t N) (t-slot a k s G pos e t N) b
-
-          gone : Root (deepen b k t s) k → ⊥
-          gone r = N .0 (sym (ap (λ c. c .mergedInto) (deepen-f k t s (k≢t a k s G pos e t N) (k-slot a k s G pos e t N) (t-slot a k s G pos e t N) b)) ∙ r .1)
+      visit-cases o w h a k s Falls (λ x. still-falls) (λ z l. put-falls) (λ z l y. isolated-cases o w h a k s Falls put-falls still-falls)
+      (λ z l t N. let f = merge-fewer a k s G B pos e fits t N in (omega (arith, f .0, f .1), merge-changes a k s G pos e t N .table ∙ table))
+      (λ z l t N b. let f = deepen-fewer a k s G B pos e fits t N b in (omega (arith, f .0, f .1), deepen-changes a k s G pos e t N b .table ∙ table))
 
 module _ (image : List ℕ) (size : ℕ) (o : RunnerConfig) (w h : ℕ) (q : Queue) (cap n : ℕ) where
   -- `count` turns lead to the state before slot k is visited at area a

@@ -15,11 +15,11 @@ use Rattle.rules.specs.Stage2.{areasOf, neighbours, isolated, visit, pas
 use Rattle.rules.specs.Ledger.{Held, enter, ledger}
 use Rattle.rules.specs.Claim.{bit, occurs, countOf, Stands}
 use Rattle.rules.proofs.Owned.{owned}
-use Rattle.rules.proofs.Facts.{is-true, T-dec, T-bit, bit-T, eqb-yes, eqb-no, countOf-one, occurs-append, countOf-bound}
+use Rattle.rules.proofs.Facts.{is-true, T-dec, T-bit, eqb-yes, eqb-no, countOf-one, occurs-append, countOf-bound}
 use Rattle.rules.proofs.Forest.{Inside, inside-not}
-use Rattle.rules.proofs.Basic.{Basic, Moved, three, merge-moved, deepen-f, deepen-moved, lab-from, lab-other, plain-down, plain-o, deepened-o}
+use Rattle.rules.proofs.Basic.{Basic, Moved, three, lab-from, lab-other, plain-down, plain-o, deepened-o, some-held, held-some}
 use Rattle.rules.proofs.Visits.{Going, pass-going, All, insert-all, Near, visit-cases, visit-going, times-keep}
-use Rattle.rules.proofs.Visits.{stands, root, mine, target-stands, target-root, k≢t, k-slot, t-slot, merge-going, deepen-going}
+use Rattle.rules.proofs.Visits.{stands, root, mine, target-stands, target-root, k≢t, merge-going, deepen-going, merge-changes, deepen-changes, deepen-from}
 use Rattle.rules.proofs.Painting.{First}
 use Rattle.rules.proofs.Connected.{covers}
 
@@ -38,7 +38,7 @@ in-last : (k : ℕ) (xs : List ℕ) → In k (xs ++ (k ∷ []))
 in-last k [] = inl refl
 in-last k (x ∷ xs) = inr (in-last k xs)
 
-in-snoc : (x k : ℕ) (xs : List ℕ) → In x (xs ++ (k ∷ [])) → In x xs ⊎ (x ≡ k)
+pub in-snoc : (x k : ℕ) (xs : List ℕ) → In x (xs ++ (k ∷ [])) → In x xs ⊎ (x ≡ k)
 in-snoc x k [] (inl e) = inr e
 in-snoc x k [] (inr i) = absurd i
 in-snoc x k (y ∷ ys) (inl e) = inl (inl e)
@@ -143,22 +143,16 @@ occurs-length p [] n = absurd (n refl)
 occurs-length p (x ∷ xs) n = omega arith
 
 module _ {image : List ℕ} {size : ℕ} {h : Held} {s : State} (B : Basic image size h s) where
-  holds-occurs : (k p : ℕ) → T (h k p) → occurs p (cluster s k .pixels) ≢ 0
-  holds-occurs k p x e = let b : bit (h k p) ≡ 1 = T-bit (h k p) x in omega (arith, B .lists k p)
-
-  occurs-holds : (k p : ℕ) → occurs p (cluster s k .pixels) ≢ 0 → T (h k p)
-  occurs-holds k p n = bit-T (h k p) (λ z. n (B .lists k p ∙ z))
-
   pub area-countOf : (k : ℕ) → area (cluster s k) ≡ countOf (h k) size
   area-countOf k =
-      sym (total-length (cluster s k .pixels) size (λ p n. omega (arith, B .width, B .places k p (occurs-holds k p n))))
+      sym (total-length (cluster s k .pixels) size (λ p n. omega (arith, B .width, B .places k p (some-held B k p n))))
       ∙ total-countOf (cluster s k .pixels) (h k) (B .lists k) size
 
   pub area-le : (k : ℕ) → area (cluster s k) ≤ size
   area-le k = omega (arith, area-countOf k, countOf-bound (h k) size)
 
   pub area-pos : (k p : ℕ) → T (h k p) → 0 < area (cluster s k)
-  area-pos k p x = occurs-length p (cluster s k .pixels) (holds-occurs k p x)
+  area-pos k p x = occurs-length p (cluster s k .pixels) (λ z. omega (arith, held-some B k p x))
 
 -- ---- the outputs before slot k is visited at area a
 
@@ -291,12 +285,6 @@ module _ {image : List ℕ} {o : RunnerConfig} {size n : ℕ} where
     not-t : (x : ℕ) → In x (s .outputs) → x ≢ t
     not-t x i z = no-root t (subst (λ m. In m (s .outputs)) z i) t-root
 
-    apart : (p : ℕ) → T (ledger (s .log) t p) → T (ledger (s .log) k p) → ⊥
-    apart p x y = ne (sym (G .sound .tops k p y k-root) ∙ G .sound .tops t p x t-root)
-
-    t-slot′ : t < length (s .clusters)
-    t-slot′ = t-slot a k s G pos e t N
-
     module _ {s′ : State} (M : Moved k t s s′) where
       t-area : area (cluster s′ t) ≡ area (cluster s t) + area (cluster s k)
       t-area = ap length (M .t-pixels) ∙ length-append (cluster s t .pixels) (cluster s k .pixels)
@@ -317,11 +305,11 @@ module _ {image : List ℕ} {o : RunnerConfig} {size n : ℕ} where
 
       new-lit : (p : ℕ) → p < size → label s′ p ≢ 0
       new-lit p l z = by-cases (T-dec (ledger (s .log) k p))
-          (λ x. N .0 (sym (lab-from (G .sound .basic) k t ne apart t-slot′ M p x) ∙ z))
-          (λ x. W .lit p l (sym (lab-other (G .sound .basic) k t ne apart t-slot′ M p x) ∙ z))
+          (λ x. N .0 (sym (lab-from (G .sound .basic) k t M p x) ∙ z))
+          (λ x. W .lit p l (sym (lab-other (G .sound .basic) k t M p x) ∙ z))
 
     M₁ : Moved k t s (merge k t s)
-    M₁ = merge-moved k t s ne (k-slot a k s G pos e t N) t-slot′
+    M₁ = merge-changes a k s G pos e t N
 
     merge-shows : Shows o size n a (suc k) (merge k t s)
     unfolding merge emptied withCluster withResidue
@@ -385,14 +373,14 @@ module _ {image : List ℕ} {o : RunnerConfig} {size n : ℕ} where
         s′ = deepen hollow k t s
 
         M : Moved k t s s′
-        M = deepen-moved k t s ne (k-slot a k s G pos e t N) t-slot′ hollow
+        M = deepen-changes a k s G pos e t N hollow
 
         old : (j : ℕ) → j ≢ t → Stands h′ j → Stands h j
         old j v z = (z .0, subst (λ g. T (g (z .0))) (deepened-o h k t j v) (z .1))
 
         none : (x : ℕ) → cluster s′ x .mergedInto ≡ 0 → In x (s .outputs) ⊎ (x ≡ k) → ⊥
         none x r (inl i) = still-over M x i r
-        none x r (inr z) = N .0 (sym (ap (λ c. c .mergedInto) (deepen-f k t s ne (k-slot a k s G pos e t N) t-slot′ hollow)) ∙ subst (λ m. cluster s′ m .mergedInto ≡ 0) z r)
+        none x r (inr z) = N .0 (sym (ap (λ c. c .mergedInto) (deepen-from a k s G pos e t N hollow)) ∙ subst (λ m. cluster s′ m .mergedInto ≡ 0) z r)
 
         no-t : (y : ℕ) → In y (s .outputs) ⊎ (y ≡ k) → y ≢ t
         no-t y (inl i) = not-t y i
@@ -428,7 +416,7 @@ module _ {image : List ℕ} (o : RunnerConfig) (w h : ℕ) {n : ℕ} where
         holds p l x = subst (λ m. T (ledger (s .log) m p)) x (B .shown p (W .lit p l))
 
         whole : (p : ℕ) → p < w * h → label s p ≡ k
-        whole = covers o w h s k (positive q w h on .0) (positive q w h on .1) (W .lit) (mine a k s G pos e) on (λ p l x. holds-occurs B k p (holds p l x)) none
+        whole = covers o w h s k (positive q w h on .0) (positive q w h on .1) (W .lit) (mine a k s G pos e) on (λ p l x z. omega (arith, held-some B k p (holds p l x))) none
 
         full : a ≡ w * h
         full = sym e ∙ area-countOf B k ∙ countOf-all (ledger (s .log) k) (w * h) (λ p l. holds p l (whole p l))

@@ -1,6 +1,6 @@
 -- The picture clause of demand 3: keying off.
 use mathlib.Core.Path.{_≡_, refl, sym, ap, _∙_, subst}
-use mathlib.Core.Logic.{_↔_, _≢_, _⊎_, inl, inr}
+use mathlib.Core.Logic.{_↔_, _≢_, inl, inr}
 use mathlib.Core.Bool.{Bool, true, false}
 use mathlib.Core.List.{List, [], _∷_}
 use Prim.Native.Nat.{ℕ, zero, suc, _+_, _*_, _≤_, _<_}
@@ -10,7 +10,7 @@ use lib.Dec.{T, eqb, ltb, lt→ltb, ltb→lt}
 use lib.ListN.{length, getD}
 use Rattle.rules.specs.Base.{if_then_else_, keep}
 use Rattle.rules.specs.Color.{RunnerConfig, ColorSum, keyingOn, pixel, average, one, _⊕_}
-use Rattle.rules.specs.State.{Cluster, State, cluster, label, area, withResidue}
+use Rattle.rules.specs.State.{Cluster, State, cluster, label, withResidue}
 use Rattle.rules.specs.Stage2.{prepareStage2}
 use Rattle.rules.specs.Picture.{paint}
 use Rattle.rules.specs.Run.{run, stage1, stage2, dropEmpty}

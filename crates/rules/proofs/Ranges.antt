@@ -11,7 +11,6 @@ use lib.ListN.{length, getD, length-append, length-map}
 use Rattle.rules.specs.Base.{if_then_else_, keep}
 use Rattle.rules.specs.Color.{RunnerConfig, ColorSum, one, _⊕_, pixel, keyingOn}
 use Rattle.rules.specs.State.{State, cluster, label, area, emptied, withCluster, mergedTo, deeper, withResidue, put, merge, deepen}
-use Rattle.rules.specs.Stage1.{taken}
 use Rattle.rules.specs.Stage2.{visit, prepareStage2}
 use Rattle.rules.specs.Run.{stage1, stage2, run, dropEmpty}
 use Rattle.rules.specs.Layout.{after, firstOf, link}
@@ -24,14 +23,14 @@ use Rattle.rules.specs.Ranges.{Fits, OnImage, Below, Ranged}
 use Rattle.rules.specs.Demand3.{Discarded, Agrees}
 use Rattle.rules.proofs.Owned.{owned}
 use Rattle.rules.proofs.Facts.{is-false, standing, bit-T, eqb-yes, countOf-le, tally-or, tally-one, countOf-bound}
-use Rattle.rules.proofs.Basic.{Basic, Moved, three, plain-to, plain-up, merge-f, merge-t, merge-moved, deepen-f, deepen-t, deepen-moved}
+use Rattle.rules.proofs.Basic.{Basic, Moved, three, plain-to, plain-up, some-held}
 use Rattle.rules.proofs.Sound.{Sound}
-use Rattle.rules.proofs.Visits.{Going, Near, visit-cases, isolated-cases, stands, k≢t, k-slot, t-slot, target-stands, merge-going}
-use Rattle.rules.proofs.Early.{Early, settled}
-use Rattle.rules.proofs.Whole.{early, early-at}
+use Rattle.rules.proofs.Visits.{Going, Near, visit-cases, isolated-cases, stands, k≢t, t-slot, target-stands, merge-going, merge-changes, deepen-changes, merge-from, deepen-from, merge-to, deepen-to}
+use Rattle.rules.proofs.Early.{Early, settled, flats-apart}
+use Rattle.rules.proofs.Whole.{early}
 use Rattle.rules.proofs.Outputs.{area-le}
 use Rattle.rules.proofs.Pictures.{tally-count, tally-bytes}
-use Rattle.rules.proofs.Bounds.{Bounded, rooted, waiting, root-out, fewer-roots, stood}
+use Rattle.rules.proofs.Bounds.{Bounded, rooted, waiting, root-out, stood, merge-fewer, deepen-fewer}
 use Rattle.rules.proofs.Moments.{Between, moments-keep, stage2-keep, each-map}
 use Rattle.rules.proofs.Order.{turns-keep, start-turning}
 use Rattle.rules.proofs.Slots.{stage1-slots, both-rects, no-rect}
@@ -85,9 +84,6 @@ module _ (image : List ℕ) (bytes : (i : ℕ) → getD image i 0 ≤ 255) where
   pub sum-fits : {size : ℕ} {h : Held} {s : State} → Basic image size h s → (k : ℕ) → Fits size (cluster s k .sum)
   sum-fits {size} {h} {s} C k = subst (Fits size) (sym (C .sums k)) (tally-fits (h k) size)
 
-  pub taken-fits : (o : RunnerConfig) (w h n : ℕ) → n ≤ w * h → (k : ℕ) → Fits (w * h) (cluster (taken o w image (w * h) n) k .sum)
-  taken-fits o w h n l k = sum-fits (early-at o w h image n l .basic) k
-
   residue-fits : {size : ℕ} {h O : Held} {s : State} → Sound image size h O s → (k : ℕ) → Stands h k → Fits size (cluster s k .residue)
   residue-fits {size} {h} {O} {s} S k z = subst (Fits size) (sym (S .residues k z)) (tally-fits (O k) size)
 
@@ -115,15 +111,6 @@ module _ (image : List ℕ) (bytes : (i : ℕ) → getD image i 0 ≤ 255) where
       B = record { total = omega arith; table = I .table }
 
       module _ (t : ℕ) (N : Near s (label s (getD (cluster s k .pixels) 0 0)) t) where
-        d : k ≢ t
-        d = k≢t a k s G pos e t N
-
-        ks : k < length (s .clusters)
-        ks = k-slot a k s G pos e t N
-
-        ts : t < length (s .clusters)
-        ts = t-slot a k s G pos e t N
-
         merge-inner : Inner (merge k t s)
         unfolding merge withResidue withCluster emptied
         merge-inner = record {
@@ -132,7 +119,7 @@ module _ (image : List ℕ) (bytes : (i : ℕ) → getD image i 0 ≤ 255) where
               (subst (λ c. OnImage w h (c .rect)) (sym to) (both-rects w h (cluster s t .rect) (cluster s k .rect) (I .rects t) (I .rects k)))
               (λ j m l. subst (λ c. OnImage w h (c .rect)) (sym (M .other j m l)) (I .rects j));
           residues = three k t (λ j. Fits (w * h) (cluster u j .residue)) (subst (λ c. Fits (w * h) (c .residue)) (sym from) (I .residues k))
-              (residue-fits (merge-going a k s G pos e t N .sound) t (getD (cluster s k .pixels) 0 0, plain-to (ledger (s .log)) k t d (getD (cluster s k .pixels) 0 0) (stands a k s G pos e)))
+              (residue-fits (merge-going a k s G pos e t N .sound) t (getD (cluster s k .pixels) 0 0, plain-to (ledger (s .log)) k t (k≢t a k s G pos e t N) (getD (cluster s k .pixels) 0 0) (stands a k s G pos e)))
               (λ j m l. subst (λ c. Fits (w * h) (c .residue)) (sym (M .other j m l)) (I .residues j));
           into = three k t (λ j. cluster u j .mergedInto < n) (subst (λ c. c .mergedInto < n) (sym from) (I .into k)) (subst (λ c. c .mergedInto < n) (sym to) (I .into t))
               (λ j m l. subst (λ c. c .mergedInto < n) (sym (M .other j m l)) (I .into j));
@@ -149,16 +136,16 @@ module _ (image : List ℕ) (bytes : (i : ℕ) → getD image i 0 ≤ 255) where
             u = merge k t s
 
             M : Moved k t s (merge k t s)
-            M = merge-moved k t s d ks ts
+            M = merge-changes a k s G pos e t N
 
             from : cluster (merge k t s) k ≡ emptied (cluster s k)
-            from = merge-f k t s d ks ts
+            from = merge-from a k s G pos e t N
 
             to : cluster (merge k t s) t ≡ withResidue (cluster s t .residue ⊕ cluster s k .residue) (withCluster (cluster s k) (cluster s t))
-            to = merge-t k t s d ks ts
+            to = merge-to a k s G pos e t N
 
             less : countOf (rooted (merge k t s)) n < countOf (rooted s) n
-            less = fewer-roots a k s G B pos e fits t N M (λ r. omega (arith, r .0, ap area from)) (M .table)
+            less = merge-fewer a k s G B pos e fits t N .0
 
         deepen-inner : (b : Bool) → Inner (deepen b k t s)
         unfolding deepen mergedTo withCluster deeper
@@ -169,7 +156,7 @@ module _ (image : List ℕ) (bytes : (i : ℕ) → getD image i 0 ≤ 255) where
               (λ j m l. subst (λ c. OnImage w h (c .rect)) (sym (M .other j m l)) (I .rects j));
           residues = three k t (λ j. Fits (w * h) (cluster u j .residue)) (subst (λ c. Fits (w * h) (c .residue)) (sym from) (I .residues k)) (subst (λ c. Fits (w * h) (c .residue)) (sym to) (I .residues t))
               (λ j m l. subst (λ c. Fits (w * h) (c .residue)) (sym (M .other j m l)) (I .residues j));
-          into = three k t (λ j. cluster u j .mergedInto < n) (subst (λ c. c .mergedInto < n) (sym from) (subst (λ m. t < m) (I .table) ts)) (subst (λ c. c .mergedInto < n) (sym to) (I .into t))
+          into = three k t (λ j. cluster u j .mergedInto < n) (subst (λ c. c .mergedInto < n) (sym from) (subst (λ m. t < m) (I .table) (t-slot a k s G pos e t N))) (subst (λ c. c .mergedInto < n) (sym to) (I .into t))
               (λ j m l. subst (λ c. c .mergedInto < n) (sym (M .other j m l)) (I .into j));
           depths = three k t (λ j. cluster u j .depth + countOf (rooted u) n ≤ w * h) (omega (arith, ap (λ c. c .depth) from, I .depths k, less)) (omega (arith, ap (λ c. c .depth) to, I .depths t, less))
               (λ j m l. omega (arith, ap (λ c. c .depth) (M .other j m l), I .depths j, less));
@@ -184,16 +171,16 @@ module _ (image : List ℕ) (bytes : (i : ℕ) → getD image i 0 ≤ 255) where
             u = deepen b k t s
 
             M : Moved k t s (deepen b k t s)
-            M = deepen-moved k t s d ks ts b
+            M = deepen-changes a k s G pos e t N b
 
             from : cluster (deepen b k t s) k ≡ mergedTo t (cluster s k)
-            from = deepen-f k t s d ks ts b
+            from = deepen-from a k s G pos e t N b
 
             to : cluster (deepen b k t s) t ≡ deeper b k (withCluster (cluster s k) (cluster s t))
-            to = deepen-t k t s d ks ts b
+            to = deepen-to a k s G pos e t N b
 
             less : countOf (rooted (deepen b k t s)) n < countOf (rooted s) n
-            less = fewer-roots a k s G B pos e fits t N M (λ r. N .0 (sym (ap (λ c. c .mergedInto) from) ∙ r .1)) (M .table)
+            less = deepen-fewer a k s G B pos e fits t N b .0
 
             more : (y : Bool) → length (if y then cluster s t .holes ++ (k ∷ []) else cluster s t .holes) ≤ cluster s t .depth + 1
             more true = omega (arith, length-append (cluster s t .holes) (k ∷ []), I .holes t)
@@ -236,7 +223,7 @@ module _ (image : List ℕ) (bytes : (i : ℕ) → getD image i 0 ≤ 255) where
         kids k = subst (λ m. Below m (cluster s k .holes)) (sym (I .table)) (I .children k)
 
         pixels : (k : ℕ) → Below (w * h) (cluster s k .pixels)
-        pixels k = occurs-below (w * h) (cluster s k .pixels) (λ p z. subst (λ m. p < m) (C .width) (C .places k p (bit-T (ledger (s .log) k p) (λ y. z (C .lists k p ∙ y)))))
+        pixels k = occurs-below (w * h) (cluster s k .pixels) (λ p z. subst (λ m. p < m) (C .width) (C .places k p (some-held C k p z)))
 
   module _ (o : RunnerConfig) (w h : ℕ) where
     start-inner : Inner w h (length (stage1 o w h image .clusters)) (prepareStage2 (stage1 o w h image))
@@ -346,12 +333,9 @@ module _ (image : List ℕ) (bytes : (i : ℕ) → getD image i 0 ≤ 255) {size
     pub combine-never-seven : (f t : ℕ) → f ≢ t → sumAnswer (cluster s t .sum) (cluster s f .sum) ≡ 0
     combine-never-seven f t n = never-seven size (cluster s t .sum) (cluster s f .sum) few (subst (Fits size) total (tally-fits image bytes (λ q. ledger (s .log) t q || ledger (s .log) f q) size))
       where
-        apart : (p : ℕ) → T (ledger (s .log) t p) → T (ledger (s .log) f p) → ⊥
-        apart p a b = n (sym (E .flats f p b) ∙ E .flats t p a)
-
         total : tally image (λ q. ledger (s .log) t q || ledger (s .log) f q) size ≡ cluster s t .sum ⊕ cluster s f .sum
         total =
-            tally-or image (ledger (s .log) t) (ledger (s .log) f) apart size ∙ ap (λ x. x ⊕ tally image (ledger (s .log) f) size) (sym (E .basic .sums t))
+            tally-or image (ledger (s .log) t) (ledger (s .log) f) (flats-apart E f t n) size ∙ ap (λ x. x ⊕ tally image (ledger (s .log) f) size) (sym (E .basic .sums t))
             ∙ ap (λ y. cluster s t .sum ⊕ y) (sym (E .basic .sums f))
 
   pub merge-never-seven : (a k : ℕ) (s : State) → Going image size a k s → 0 < a → area (cluster s k) ≡ a → (t : ℕ) → Near s (label s (getD (cluster s k .pixels) 0 0)) t
@@ -359,11 +343,9 @@ module _ (image : List ℕ) (bytes : (i : ℕ) → getD image i 0 ≤ 255) {size
   unfolding merge withResidue
   merge-never-seven a k s G pos e t N =
       let S = merge-going a k s G pos e t N .sound in
-      let t-is = merge-t k t s (k≢t a k s G pos e t N) (k-slot a k s G pos e t N) (t-slot a k s G pos e t N) in
-      let M = merge-moved k t s (k≢t a k s G pos e t N) (k-slot a k s G pos e t N) (t-slot a k s G pos e t N) in
       let z = target-stands a k s G pos e t N in (
-        never-seven size (cluster s t .sum) (cluster s k .sum) few (subst (Fits size) (M .t-sum) (sum-fits image bytes (S .basic) t)),
-        never-seven size (cluster s t .residue) (cluster s k .residue) few (subst (Fits size) (ap (λ c. c .residue) t-is) (residue-fits image bytes S t (stood z))),
+        never-seven size (cluster s t .sum) (cluster s k .sum) few (subst (Fits size) (merge-changes a k s G pos e t N .t-sum) (sum-fits image bytes (S .basic) t)),
+        never-seven size (cluster s t .residue) (cluster s k .residue) few (subst (Fits size) (ap (λ c. c .residue) (merge-to a k s G pos e t N)) (residue-fits image bytes S t (stood z))),
       )
     where
       stood : Stands (ledger (s .log)) t → Stands (ledger (merge k t s .log)) t

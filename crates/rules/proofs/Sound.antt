@@ -43,10 +43,10 @@ module _ {image : List ℕ} {size : ℕ} {h O : Held} {s : State} (S : Sound ima
 
   module _ {s′ : State} (M : Moved f t s s′) where
     from : (q : ℕ) → T (h f q) → label s′ q ≡ t
-    from = lab-from (S .basic) f t n apart t-slot M
+    from = lab-from (S .basic) f t M
 
     other : (q : ℕ) → (T (h f q) → ⊥) → label s′ q ≡ label s q
-    other = lab-other (S .basic) f t n apart t-slot M
+    other = lab-other (S .basic) f t M
 
     roots : (k : ℕ) → k ≢ f → cluster s′ k .mergedInto ≡ cluster s k .mergedInto
     roots k d = by-cases (ℕ-discrete k t)

@@ -11,15 +11,15 @@ use native.Mathlib.Omega.{arith}
 use lib.Dec.{T, eqb, ltb, leb, eqb→eq, ltb→lt, nltb→le}
 use lib.ListN.{length, getD}
 use Rattle.rules.specs.Base.{if_then_else_, noneAbove, times, insert, least}
-use Rattle.rules.specs.Color.{RunnerConfig, discards}
+use Rattle.rules.specs.Color.{RunnerConfig, _⊕_, discards}
 use Rattle.rules.specs.Grid.{sides}
-use Rattle.rules.specs.State.{State, cluster, label, area, emptied, mergedTo, put, merge, deepen}
+use Rattle.rules.specs.State.{State, cluster, label, area, emptied, withCluster, withResidue, mergedTo, deeper, put, merge, deepen}
 use Rattle.rules.specs.Stage2.{labelsAt, labelsAround, neighbours, rank, deepens, isolated, mergeInto, decide, visit, pass, passes}
 use Rattle.rules.specs.Ledger.{Held, ledger}
 use Rattle.rules.specs.Claim.{bit, occurs, Stands}
 use Rattle.rules.proofs.Owned.{owned}
 use Rattle.rules.proofs.Facts.{eqb-yes, bit-T}
-use Rattle.rules.proofs.Basic.{Moved, three, merge-f, merge-moved, deepen-f, deepen-moved}
+use Rattle.rules.proofs.Basic.{Moved, three, merge-f, merge-t, merge-moved, deepen-f, deepen-t, deepen-moved}
 use Rattle.rules.proofs.Sound.{Sound, plain-sound, deepened-sound}
 
 -- what each of n steps keeps, n steps keep
@@ -200,6 +200,26 @@ module _ {image : List ℕ} {size : ℕ} where
       pub t-slot : t < length (s .clusters)
       t-slot = G .sound .basic .slots t (target-stands .0) (target-stands .1)
 
+      -- what a plain merge changes, and what becomes of k and t
+      pub merge-changes : Moved k t s (merge k t s)
+      merge-changes = merge-moved k t s k≢t k-slot t-slot
+
+      pub merge-from : cluster (merge k t s) k ≡ emptied (cluster s k)
+      merge-from = merge-f k t s k≢t k-slot t-slot
+
+      pub merge-to : cluster (merge k t s) t ≡ withResidue (cluster s t .residue ⊕ cluster s k .residue) (withCluster (cluster s k) (cluster s t))
+      merge-to = merge-t k t s k≢t k-slot t-slot
+
+      -- and a deepening one
+      pub deepen-changes : (hollow : Bool) → Moved k t s (deepen hollow k t s)
+      deepen-changes = deepen-moved k t s k≢t k-slot t-slot
+
+      pub deepen-from : (hollow : Bool) → cluster (deepen hollow k t s) k ≡ mergedTo t (cluster s k)
+      deepen-from = deepen-f k t s k≢t k-slot t-slot
+
+      pub deepen-to : (hollow : Bool) → cluster (deepen hollow k t s) t ≡ deeper hollow k (withCluster (cluster s k) (cluster s t))
+      deepen-to = deepen-t k t s k≢t k-slot t-slot
+
       kept : {s′ : State} → Moved k t s s′ → (cluster s′ k .mergedInto ≢ 0 → (area (cluster s′ k) < a) ⊎ ((area (cluster s′ k) ≡ a) × (k < suc k)))
           → (j : ℕ) → cluster s′ j .mergedInto ≢ 0 → (area (cluster s′ j) < a) ⊎ ((area (cluster s′ j) ≡ a) × (j < suc k))
       kept {s′} M x =
@@ -211,14 +231,14 @@ module _ {image : List ℕ} {size : ℕ} where
       unfolding merge emptied
       merge-going = record {
         sound = plain-sound (G .sound) k t k≢t root target-root (first, stands) target-stands;
-        past = kept (merge-moved k t s k≢t k-slot t-slot) (λ z. absurd (z (ap (λ c. c .mergedInto) (merge-f k t s k≢t k-slot t-slot) ∙ root)));
+        past = kept merge-changes (λ z. absurd (z (ap (λ c. c .mergedInto) merge-from ∙ root)));
       }
 
       pub deepen-going : (hollow : Bool) → Going image size a (suc k) (deepen hollow k t s)
       unfolding deepen mergedTo
       deepen-going hollow = record {
         sound = deepened-sound (G .sound) k t k≢t root target-root (first, stands) target-stands hollow (N .0);
-        past = kept (deepen-moved k t s k≢t k-slot t-slot hollow) (λ z. inr (ap area (deepen-f k t s k≢t k-slot t-slot hollow) ∙ e, omega arith));
+        past = kept (deepen-changes hollow) (λ z. inr (ap area (deepen-from hollow) ∙ e, omega arith));
       }
 
   pub visit-going : (o : RunnerConfig) (w h a k : ℕ) (s : State) → Going image size a k s → 0 < a → Going image size a (suc k) (visit o w h a k s)

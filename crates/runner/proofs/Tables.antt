@@ -12,7 +12,7 @@ use lib.ListN.{length, getD, set, drop, replicate, length-set, length-append, le
 use lib.Seq.{getD-set-same, getD-set-other, getD-drop, getD-append-add, ext-getD}
 use Rattle.rules.specs.Base.{if_then_else_}
 use Rattle.rules.specs.State.{State, cluster}
-use Rattle.rules.specs.Layout.{after, firstOf, sumNumbers, slot, table}
+use Rattle.rules.specs.Layout.{firstOf, sumNumbers, slot, table}
 use Rattle.rules.specs.Calls.{over}
 use Rattle.rules.proofs.Layouts.{table-at, table-length}
 use Rattle.color.specs.Colors.{sumOf}
@@ -27,10 +27,6 @@ store-length t base j [] = refl
 store-length t base j (v ∷ vs) = store-length (set t (base + j) v) base (suc j) vs ∙ length-set t (base + j) v
 
 -- the length after a save
-pub head-length : (t : List ℕ) (k : ℕ) (s : Head) → length (savedHead t k s) ≡ length t
-unfolding savedHead
-head-length t k s = store-length t (21 * k) 0 (headNumbers s)
-
 pub residue-length : (t : List ℕ) (k : ℕ) (s : ColorSum) → length (savedResidue t k s) ≡ length t
 unfolding savedResidue
 residue-length t k s = store-length t (21 * k) 11 (residueNumbers s)
@@ -173,10 +169,6 @@ module _ (s : State) {n : ℕ} {t₀ t : List ℕ} (T : Table n (slotsOf s) t₀
   unfolding slot sumNumbers
   count-at = number 1 (lit< tt)
 
-  pub merged-at : getD t (21 * k + 16) 0 ≡ cluster s k .mergedInto
-  unfolding slot sumNumbers
-  merged-at = number 16 (lit< tt)
-
   pub depth-at : getD t (21 * k + 17) 0 ≡ cluster s k .depth
   unfolding slot sumNumbers
   depth-at = number 17 (lit< tt)
@@ -184,14 +176,6 @@ module _ (s : State) {n : ℕ} {t₀ t : List ℕ} (T : Table n (slotsOf s) t₀
   pub holes-at : getD t (21 * k + 18) 0 ≡ length (cluster s k .holes)
   unfolding slot sumNumbers
   holes-at = number 18 (lit< tt)
-
-  pub first-hole-at : getD t (21 * k + 19) 0 ≡ firstOf (cluster s k .holes)
-  unfolding slot sumNumbers
-  first-hole-at = number 19 (lit< tt)
-
-  pub next-hole-at : getD t (21 * k + 20) 0 ≡ after k (cluster s (cluster s k .mergedInto) .holes)
-  unfolding slot sumNumbers
-  next-hole-at = number 20 (lit< tt)
 
 -- a table of all slots of a state is the state's table written over what was there
 pub table-over : (s : State) {t₀ t : List ℕ} → Table (length (s .clusters)) (slotsOf s) t₀ t → 21 * length (s .clusters) ≤ length t₀ → t ≡ over (table s) t₀

@@ -1,6 +1,6 @@
 -- Laws of the tournament tree. Assumes nothing.
 use mathlib.Core.Path.{_≡_, refl, sym, ap, ap₂, _∙_, subst}
-use mathlib.Core.Logic.{_⊎_, inl, inr}
+use mathlib.Core.Logic.{_⊎_, inl, inr, by-cases}
 use mathlib.Core.Bool.{Bool, true, false, _&&_}
 use mathlib.Core.List.{List}
 use Prim.Native.Nat.{ℕ, zero, suc, _+_, _*_, _-_, _/_, _≤_, _<_}
@@ -70,17 +70,15 @@ module _ (queue : List ℕ) (n room : ℕ) (H : Tree queue n room) where
 
   -- a node comes before what stands below it
   above : (x : ℕ) → 2 ≤ x → x < 2 * n → Before (entryAt queue n room (x / 2)) (entryAt queue n room x)
-  above x a b = go (ℕ-discrete x (2 * (x / 2)))
+  above x a b = by-cases (ℕ-discrete x (2 * (x / 2)))
+      (λ e. subst (λ e. Before e (entryAt queue n room x)) (sym N) (subst (λ y. Before (firstBelow queue n room (x / 2)) (entryAt queue n room y)) (sym e) (F .0)))
+      (λ d. subst (λ e. Before e (entryAt queue n room x)) (sym N) (subst (λ y. Before (firstBelow queue n room (x / 2)) (entryAt queue n room y)) (let z : 2 * (x / 2) + 1 ≡ x = omega arith in z) (F .1)))
     where
       F : Chosen (entryAt queue n room (2 * (x / 2))) (entryAt queue n room (2 * (x / 2) + 1)) (firstBelow queue n room (x / 2))
       F = first-of (entryAt queue n room (2 * (x / 2))) (entryAt queue n room (2 * (x / 2) + 1))
 
       N : entryAt queue n room (x / 2) ≡ firstBelow queue n room (x / 2)
       N = node-is (x / 2) (omega arith) (omega arith)
-
-      go : Dec (x ≡ 2 * (x / 2)) → Before (entryAt queue n room (x / 2)) (entryAt queue n room x)
-      go (yes e) = subst (λ e. Before e (entryAt queue n room x)) (sym N) (subst (λ y. Before (firstBelow queue n room (x / 2)) (entryAt queue n room y)) (sym e) (F .0))
-      go (no d) = subst (λ e. Before e (entryAt queue n room x)) (sym N) (subst (λ y. Before (firstBelow queue n room (x / 2)) (entryAt queue n room y)) (let z : 2 * (x / 2) + 1 ≡ x = omega arith in z) (F .1))
 
   -- the root comes before every position
   root-before : (m x : ℕ) → x ≤ m → 1 ≤ x → x < 2 * n → Before (entryAt queue n room 1) (entryAt queue n room x)
@@ -166,14 +164,12 @@ module _ (queue : List ℕ) (n room : ℕ) (S : Sized n room (length queue)) (j 
   -- afterwards node i holds the first of its children if it did before, or is j; but the node above j may not
   made-holds : (i : ℕ) → 1 ≤ i → i < n → (i ≡ j / 2 → ⊥) → ((i ≡ j → ⊥) → entryAt queue n room i ≡ firstBelow queue n room i)
       → entryAt (refreshed queue n room j) n room i ≡ firstBelow (refreshed queue n room j) n room i
-  made-holds i p q d h = go (ℕ-discrete i j)
+  made-holds i p q d h = by-cases (ℕ-discrete i j)
+      (λ e. subst (λ y. entryAt (refreshed queue n room j) n room y ≡ firstBelow queue n room y) (sym e) made-node ∙ sym below)
+      (λ e. made-other i (omega arith) e ∙ h e ∙ sym below)
     where
       below : firstBelow (refreshed queue n room j) n room i ≡ firstBelow queue n room i
       below = ap₂ firstOf (made-other (2 * i) (omega arith) (λ e. d (omega arith))) (made-other (2 * i + 1) (omega arith) (λ e. d (omega arith)))
-
-      go : Dec (i ≡ j) → entryAt (refreshed queue n room j) n room i ≡ firstBelow (refreshed queue n room j) n room i
-      go (yes e) = subst (λ y. entryAt (refreshed queue n room j) n room y ≡ firstBelow queue n room y) (sym e) made-node ∙ sym below
-      go (no e) = made-other i (omega arith) e ∙ h e ∙ sym below
 
 -- ---- the stores of one node
 

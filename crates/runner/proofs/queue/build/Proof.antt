@@ -10,23 +10,8 @@ Inv-loop queue₀ n room j₀ queue j = Building queue₀ queue n room j
 abbrev μ-loop : tie.MeasureT-loop
 μ-loop queue₀ n room j₀ queue j = j
 
-loop-holds : tie.Need-loop-holds Inv-loop μ-loop
-loop-holds c = build-start _ _ _ (c .before .pre)
-
-sub-j : tie.Need-sub-j Inv-loop μ-loop
-sub-j c = omega arith
-
-refresh-requires : tie.Need-refresh-requires Inv-loop μ-loop
-refresh-requires c κs = (c .before .before .loop .inv .sized, omega (arith, c .before .before .loop .inv .inside))
-
-loop-less : tie.Need-loop-less Inv-loop μ-loop
-loop-less c = omega arith
-
 loop-again : tie.Need-loop-again Inv-loop μ-loop
 loop-again c = build-down _ _ _ _ _ _ (c .before .before .before .before .before .loop .inv) (c .before .before .before .before .loop-test .taken) (c .before .before .refresh .ensures .made)
-
-same-length : tie.Need-same-length Inv-loop μ-loop
-same-length c = c .before .loop .inv .long
 
 returns : tie.Need-returns Inv-loop μ-loop
 returns c = record { tree = build-end _ _ _ _ _ (c .loop-test .left) (c .before .loop .inv); keys = c .before .loop .inv .keys }
@@ -37,10 +22,10 @@ build-spec =
     (tie.spec
     Inv-loop
     μ-loop
-    loop-holds
-    sub-j
-    refresh-requires
-    loop-less
+    (λ c. build-start _ _ _ (c .before .pre))
+    (λ c. omega arith)
+    (λ c κs. (c .before .before .loop .inv .sized, omega (arith, c .before .before .loop .inv .inside)))
+    (λ c. omega arith)
     loop-again
-    same-length
+    (λ c. c .before .loop .inv .long)
     returns)

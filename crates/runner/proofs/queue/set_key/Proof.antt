@@ -12,21 +12,6 @@ Inv-loop queue₀ n room k key j₀ queue j = Climbing queue₀ queue n room j
 abbrev μ-loop : tie.MeasureT-loop
 μ-loop queue₀ n room k key j₀ queue j = j
 
-mul-queue : tie.Need-mul-queue Inv-loop μ-loop
-mul-queue c = omega arith
-
-slice-write-queue : tie.Need-slice-write-queue Inv-loop μ-loop
-slice-write-queue c = omega arith
-
-add-j : tie.Need-add-j Inv-loop μ-loop
-add-j c = omega arith
-
-loop-holds : tie.Need-loop-holds Inv-loop μ-loop
-loop-holds c = climb-start _ _ _ _ _ (c .before .pre .0) (c .before .pre .1 .0) (c .before .pre .1 .1)
-
-refresh-requires : tie.Need-refresh-requires Inv-loop μ-loop
-refresh-requires c κs = (c .before .before .loop .inv .sized, c .before .before .loop .inv .inside)
-
 same-length : tie.Need-same-length Inv-loop μ-loop
 same-length c = let l = c .before .before .before .before .before in simp length-set at (climb-up _ _ _ _ _ _ (l .before .loop .inv) (l .loop-test .taken) (c .before .before .before .refresh .ensures .made) .long)
 
@@ -37,14 +22,8 @@ returns c =
     let s = climb-stop _ _ _ _ _ _ (l .before .loop .inv) (l .loop-test .taken) (e .made) (e .kept (not-true _ (c .if1 .taken))) in
     record { tree = climb-end _ _ _ _ _ (omega arith) s; keys = s .keys }
 
-loop-less : tie.Need-loop-less Inv-loop μ-loop
-loop-less c = omega arith
-
 loop-again : tie.Need-loop-again Inv-loop μ-loop
 loop-again c = let l = c .before .before .before .before .before in climb-up _ _ _ _ _ _ (l .before .loop .inv) (l .loop-test .taken) (c .before .before .before .refresh .ensures .made)
-
-same-length-2 : tie.Need-same-length-2 Inv-loop μ-loop
-same-length-2 c = simp length-set at (c .before .loop .inv .long)
 
 returns-2 : tie.Need-returns-2 Inv-loop μ-loop
 returns-2 c = record { tree = climb-end _ _ _ _ _ (c .loop-test .left) (c .before .loop .inv); keys = c .before .loop .inv .keys }
@@ -55,14 +34,14 @@ set-key-spec =
     (tie.spec
     Inv-loop
     μ-loop
-    mul-queue
-    slice-write-queue
-    add-j
-    loop-holds
-    refresh-requires
+    (λ c. omega arith)
+    (λ c. omega arith)
+    (λ c. omega arith)
+    (λ c. climb-start _ _ _ _ _ (c .before .pre .0) (c .before .pre .1 .0) (c .before .pre .1 .1))
+    (λ c κs. (c .before .before .loop .inv .sized, c .before .before .loop .inv .inside))
     same-length
     returns
-    loop-less
+    (λ c. omega arith)
     loop-again
-    same-length-2
+    (λ c. simp length-set at (c .before .loop .inv .long))
     returns-2)
