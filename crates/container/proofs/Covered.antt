@@ -1,6 +1,6 @@
 -- A picture of one colour; and a list of all pixels, which fills the picture when it is painted.
 use mathlib.Core.Path.{_≡_, refl, sym, ap, _∙_, subst}
-use mathlib.Core.Logic.{_≢_}
+use mathlib.Core.Logic.{_≢_, by-cases}
 use mathlib.Core.Bool.{Bool, true}
 use mathlib.Core.List.{List, _∷_}
 use Prim.Native.Nat.{ℕ, zero, suc, _+_, _*_, _/_, _%_, _≤_, _<_}
@@ -89,11 +89,9 @@ module _ (size : ℕ) (links : List ℕ) where
   unfolding walk pixels
   rest zero u q e o = absurd (omega arith)
   rest (suc c) zero q e o = absurd e
-  rest (suc c) (suc p) q e o = go (ℕ-discrete q p) (rest c (getD links p 0) q (e .1))
-    where
-      go : Dec (q ≡ p) → (0 < occurs q (pixels (getD links p 0) c) → (d : ℕ) × (d ≤ c) × Leads size links (suc q) d 0) → (d : ℕ) × (d ≤ suc c) × Leads size links (suc q) d 0
-      go (yes z) r = (suc c, omega arith, rw z e)
-      go (no z) r = let s = r (omega (arith, ap bit (eqb-no q p z))) in (s .0, omega (arith, s .1), s .2)
+  rest (suc c) (suc p) q e o = by-cases (ℕ-discrete q p)
+      (λ z. (suc c, omega arith, rw z e))
+      (λ z. let s = rest c (getD links p 0) q (e .1) (omega (arith, ap bit (eqb-no q p z))) in (s .0, omega (arith, s .1), s .2))
 
   -- so no pixel stands twice: the list names as many pixels as it is long
   many : (c u : ℕ) → Leads size links u c 0 → c ≤ countOf (named (pixels u c)) size

@@ -15,24 +15,12 @@ use Rattle.rules.specs.State.{State, cluster, label, area, emptied, merg
 use Rattle.rules.specs.Stage2.{prepareStage2, visit, pass, passes}
 use Rattle.rules.specs.Run.{stage1, stage2}
 use Rattle.rules.specs.Claim.{countOf}
-use Rattle.rules.proofs.Facts.{standing, countOf-le, countOf-lt, countOf-swap}
+use Rattle.rules.proofs.Facts.{T-and, T-both, standing, countOf-le, countOf-lt, countOf-swap}
 use Rattle.rules.proofs.Basic.{Moved}
 use Rattle.rules.proofs.Visits.{Going, Near, visit-cases, isolated-cases, visit-going, pass-going, times-keep, root, target-root, target-stands, merge-changes, deepen-changes, merge-from, deepen-from}
 use Rattle.rules.proofs.Early.{prepareStage2-going, settled}
 use Rattle.rules.proofs.Whole.{early, stage2-passes}
 use Rattle.rules.proofs.Outputs.{area-pos}
-
-pub T-and : (a b : Bool) → T a → T b → T (a && b)
-T-and true b x y = y
-T-and false b x y = x
-
-pub T-fst : (a b : Bool) → T (a && b) → T a
-T-fst true b x = tt
-T-fst false b x = x
-
-pub T-snd : (a b : Bool) → T (a && b) → T b
-T-snd true b x = x
-T-snd false b x = absurd x
 
 -- slot k has pixels and is inside no other
 unfoldable pub rooted : State → ℕ → Bool
@@ -43,7 +31,7 @@ Root s j = (0 < area (cluster s j)) × (cluster s j .mergedInto ≡ 0)
 
 pub root-out : (s : State) (j : ℕ) → T (rooted s j) → Root s j
 unfolding rooted
-root-out s j x = (ltb→lt 0 (area (cluster s j)) (T-fst (standing s j) (eqb (cluster s j .mergedInto) 0) x), eqb→eq (cluster s j .mergedInto) 0 (T-snd (standing s j) (eqb (cluster s j .mergedInto) 0) x))
+root-out s j x = (ltb→lt 0 (area (cluster s j)) (T-both (standing s j) (eqb (cluster s j .mergedInto) 0) x .0), eqb→eq (cluster s j .mergedInto) 0 (T-both (standing s j) (eqb (cluster s j .mergedInto) 0) x .1))
 
 pub root-in : (s : State) (j : ℕ) → Root s j → T (rooted s j)
 unfolding rooted
@@ -60,13 +48,13 @@ Wait a k s j = (a < area (cluster s j)) ⊎ ((area (cluster s j) ≡ a) × (k �
 pub wait-out : (a k : ℕ) (s : State) (j : ℕ) → T (waiting a k s j) → Root s j × Wait a k s j
 unfolding waiting
 wait-out a k s j x = (
-  root-out s j (T-fst (rooted s j) (ltb a (area (cluster s j)) || (eqb (area (cluster s j)) a && leb k j)) x),
-  pick (ltb a (area (cluster s j))) refl (T-snd (rooted s j) (ltb a (area (cluster s j)) || (eqb (area (cluster s j)) a && leb k j)) x),
+  root-out s j (T-both (rooted s j) (ltb a (area (cluster s j)) || (eqb (area (cluster s j)) a && leb k j)) x .0),
+  pick (ltb a (area (cluster s j))) refl (T-both (rooted s j) (ltb a (area (cluster s j)) || (eqb (area (cluster s j)) a && leb k j)) x .1),
 )
   where
     pick : (b : Bool) → ltb a (area (cluster s j)) ≡ b → T (b || (eqb (area (cluster s j)) a && leb k j)) → Wait a k s j
     pick true e y = inl (ltb→lt a (area (cluster s j)) (subst T (sym e) tt))
-    pick false e y = inr (eqb→eq (area (cluster s j)) a (T-fst (eqb (area (cluster s j)) a) (leb k j) y), leb→le k j (T-snd (eqb (area (cluster s j)) a) (leb k j) y))
+    pick false e y = inr (eqb→eq (area (cluster s j)) a (T-both (eqb (area (cluster s j)) a) (leb k j) y .0), leb→le k j (T-both (eqb (area (cluster s j)) a) (leb k j) y .1))
 
 pub wait-in : (a k : ℕ) (s : State) (j : ℕ) → Root s j → Wait a k s j → T (waiting a k s j)
 unfolding waiting

@@ -22,7 +22,7 @@ use Rattle.rules.specs.Ledger.{Held, enter, ledger}
 use Rattle.rules.specs.Claim.{bit, occurs, tally, countOf}
 use Rattle.rules.proofs.Owned.{owned}
 use Rattle.rules.proofs.Facts.{standing, countOf-le, countOf-more, countOf-swap, countOf-none}
-use Rattle.rules.proofs.Facts.{is-true, is-false, T-dec, T-or-r, eqb-yes, eqb-no, bit-or, occurs-append, ⊕-comm, tally-or, tally-none, tally-one}
+use Rattle.rules.proofs.Facts.{is-true, is-false, T-dec, T-or-r, eqb-yes, eqb-no, bit-or, occurs-append, ⊕-comm, tally-or, tally-none, tally-one, both-true}
 use Rattle.rules.proofs.Forest.{flat}
 use Rattle.rules.proofs.Basic.{Basic, Moved, three, plain-down, plain-to, plain-up, lab-from, lab-other, plain-basic, combine-f, combine-t, combine-moved}
 use Rattle.rules.proofs.Sound.{Sound}
@@ -466,10 +466,6 @@ module _ {image : List ℕ} {size : ℕ} {Gone : ℕ → Type 0} {Keyed : Type 0
         plain-pixel : isKey o image i ≡ false → Gone i → ⊥
         plain-pixel x y = true≢false (sym (only i y .0) ∙ x)
 
-        first-of : (a b : Bool) → a && b ≡ true → a ≡ true
-        first-of true b e = refl
-        first-of false b e = e
-
         skip : Gone i → Keyed → Early image size Gone Keyed (suc i) s
         skip g q = record {
           basic = E .basic;
@@ -495,8 +491,8 @@ module _ {image : List ℕ} {size : ℕ} {Gone : ℕ → Type 0} {Keyed : Type 0
             → Early image size Gone Keyed (suc i) (if b then (if d then s else add i c at 0 s) else (if x then add i c at u s else (if y then add i c at l s else beginCluster i c at s)))
         pick true e true d x ex y ey = skip (gone i e d) (keyed i e)
         pick true e false d x ex y ey = add-early E fits (add-adds i 0 at s E (E .some)) (λ z. keyed i e) (λ x. true≢false (sym (only i x .1) ∙ d))
-        pick false e d z true ex y ey = add-early E fits (add-adds i u at s E hu) (zu (first-of _ _ ex)) (plain-pixel e)
-        pick false e d z false ex true ey = add-early E fits (add-adds i l at s E hl) (zl (first-of _ _ ey)) (plain-pixel e)
+        pick false e d z true ex y ey = add-early E fits (add-adds i u at s E hu) (zu (both-true _ _ ex .0)) (plain-pixel e)
+        pick false e d z false ex true ey = add-early E fits (add-adds i l at s E hl) (zl (both-true _ _ ey .0)) (plain-pixel e)
         pick false e d z false ex false ey = add-early E fits (beginCluster-adds i at s E) (λ z₀. absurd (omega (arith, E .some))) (plain-pixel e)
 
     labelAt-next : (i : ℕ) (s : State) (p : Option ℕ) → Early image size Gone Keyed i s → labelAt s p < s .next

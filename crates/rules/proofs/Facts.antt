@@ -1,13 +1,13 @@
 -- Tests, counts and totals.
 use mathlib.Core.Path.{_≡_, refl, sym, ap, _∙_, subst}
-use mathlib.Core.Logic.{_≢_, _⊎_, inl, inr}
+use mathlib.Core.Logic.{_≢_, _⊎_, inl, inr, by-cases}
 use mathlib.Core.Bool.{Bool, true, false, not, _&&_, _||_, true≢false}
 use mathlib.Core.List.{List, [], _∷_, _++_}
 use Prim.Native.Nat.{ℕ, zero, suc, _+_, _≤_, _<_}
 use native.Mathlib.Nat.{add-comm, add-assoc, add-zero, zero-add}
 use native.Mathlib.Decide.{ℕ-discrete, decLt}
 use native.Mathlib.Omega.{arith}
-use lib.Dec.{T, ltb, eqb, eqb→eq, eqb-refl}
+use lib.Dec.{T, not-T, ltb, eqb, eqb→eq, eqb-refl}
 use lib.ListN.{length, getD, set, length-set}
 use lib.Seq.{getD-set-same, getD-set-other}
 use Rattle.rules.specs.Base.{if_then_else_, keep}
@@ -38,6 +38,14 @@ T-or-l false b t = absurd t
 pub T-or-r : (a b : Bool) → T b → T (a || b)
 T-or-r true b t = tt
 T-or-r false b t = t
+
+pub T-and : (a b : Bool) → T a → T b → T (a && b)
+T-and true b x y = y
+T-and false b x y = x
+
+pub T-both : (a b : Bool) → T (a && b) → T a × T b
+T-both true b x = (tt, x)
+T-both false b x = absurd x
 
 pub eqb-yes : (m n : ℕ) → m ≡ n → eqb m n ≡ true
 eqb-yes m n e = is-true (eqb m n) (subst (λ x. T (eqb m x)) e (eqb-refl m))
@@ -144,12 +152,9 @@ module _ (image : List ℕ) where
   pub tally-one : (p n : ℕ) → p < n → tally image (λ q. eqb q p) n ≡ one (pixel image p)
   unfolding tally
   tally-one p zero h = absurd (omega arith)
-  tally-one p (suc n) h = step (ℕ-discrete n p) (tally-one p n)
-    where
-      step : Dec (n ≡ p) → (p < n → tally image (λ q. eqb q p) n ≡ one (pixel image p)) → tally image (λ q. eqb q p) (suc n) ≡ one (pixel image p)
-      step (yes e) ih =
-          rw (eqb-yes n p e) (ap (λ m. m ⊕ one (pixel image n)) (tally-before p n (omega arith)) ∙ ⊕-comm zeroSum (one (pixel image n)) ∙ ⊕-none (one (pixel image n)) ∙ ap (λ m. one (pixel image m)) e)
-      step (no d) ih = rw (eqb-no n p d) (ih (omega arith))
+  tally-one p (suc n) h = by-cases (ℕ-discrete n p)
+      (λ e. rw (eqb-yes n p e) (ap (λ m. m ⊕ one (pixel image n)) (tally-before p n (omega arith)) ∙ ⊕-comm zeroSum (one (pixel image n)) ∙ ⊕-none (one (pixel image n)) ∙ ap (λ m. one (pixel image m)) e))
+      (λ d. rw (eqb-no n p d) (tally-one p n (omega arith)))
 
 -- ---- fewer, and inside
 
@@ -204,11 +209,9 @@ countOf-before x (suc n) l = rw (eqb-no n x (omega arith)) (omega (arith, countO
 pub countOf-one : (x n : ℕ) → x < n → countOf (λ p. eqb p x) n ≡ 1
 unfolding countOf
 countOf-one x zero l = absurd (omega arith)
-countOf-one x (suc n) l = pick (ℕ-discrete n x) (countOf-one x n)
-  where
-    pick : Dec (n ≡ x) → (x < n → countOf (λ p. eqb p x) n ≡ 1) → countOf (λ p. eqb p x) (suc n) ≡ 1
-    pick (yes e) ih = rw (eqb-yes n x e) (omega (arith, countOf-before x n (omega arith)))
-    pick (no d) ih = rw (eqb-no n x d) (omega (arith, ih (omega arith)))
+countOf-one x (suc n) l = by-cases (ℕ-discrete n x)
+    (λ e. rw (eqb-yes n x e) (omega (arith, countOf-before x n (omega arith))))
+    (λ d. rw (eqb-no n x d) (omega (arith, countOf-one x n (omega arith))))
 
 -- one entry more
 countOf-add : (f g : ℕ → Bool) (t : ℕ) → ((j : ℕ) → j ≢ t → T (f j) → T (g j)) → (n : ℕ) → countOf f n ≤ countOf g n + countOf (λ j. eqb j t) n
@@ -234,25 +237,10 @@ pub countOf-swap : (f g : ℕ → Bool) (k t : ℕ) → ((j : ℕ) → j ≢ t �
 countOf-swap f g k t s x y n l =
     omega (
       arith,
-      countOf-more f (λ j. f j && not (eqb j t)) t (λ j d z. both (f j) (eqb j t) z (λ e. d (eqb→eq j t e))) n,
-      countOf-lt (λ j. f j && not (eqb j t)) g (λ j z. s j (λ e. apart j z e) (left (f j) (not (eqb j t)) z)) n k l y (λ z. x (left (f k) (not (eqb k t)) z)),
+      countOf-more f (λ j. f j && not (eqb j t)) t (λ j d z. T-and (f j) (not (eqb j t)) z (not-T (eqb j t) (λ e. d (eqb→eq j t e)))) n,
+      countOf-lt (λ j. f j && not (eqb j t)) g (λ j z. let v = T-both (f j) (not (eqb j t)) z in s j (λ e. subst (λ b. T (not b)) (eqb-yes j t e) (v .1)) (v .0)) n k l y
+          (λ z. x (T-both (f k) (not (eqb k t)) z .0)),
     )
-  where
-    both : (a b : Bool) → T a → (T b → ⊥) → T (a && not b)
-    both true true p q = q tt
-    both true false p q = tt
-    both false b p q = p
-
-    left : (a b : Bool) → T (a && b) → T a
-    left true b p = tt
-    left false b p = p
-
-    right : (a b : Bool) → T (a && b) → T b
-    right true b p = p
-    right false b p = absurd p
-
-    apart : (j : ℕ) → T (f j && not (eqb j t)) → j ≡ t → ⊥
-    apart j z e = subst (λ b. T (not b)) (eqb-yes j t e) (right (f j) (not (eqb j t)) z)
 
 -- slot k has pixels
 abbrev pub standing : State → ℕ → Bool

@@ -19,7 +19,7 @@ use Rattle.rules.specs.Run.{stage1}
 use Rattle.rules.specs.Order.{anyOf, interior, start, turns}
 use Rattle.rules.specs.Ledger.{Held, enter, ledger}
 use Rattle.rules.specs.Claim.{bit, occurs, Stands, Holds}
-use Rattle.rules.proofs.Facts.{is-true, T-or, T-or-l, T-or-r, eqb-yes, eqb-no, keep-le, same-bool}
+use Rattle.rules.proofs.Facts.{is-true, T-or, T-or-l, T-or-r, eqb-yes, eqb-no, keep-le, same-bool, T-both}
 use Rattle.rules.proofs.Basic.{Basic, Moved, three, plain-f, plain-o, plain-up, deepened-o, deepened-up, deepened-to}
 use Rattle.rules.proofs.Visits.{Going, Near, visit-cases-why, isolated-cases, eqb-is, eqb-ne, stands, root, k≢t, target-root, target-stands, merge-changes, deepen-changes, merge-to, deepen-from, deepen-to}
 use Rattle.rules.proofs.Early.{settled}
@@ -69,11 +69,7 @@ member-append q (x ∷ xs) ys t = go (eqb q x) t (member-append q xs ys)
 
 any-some : (f : ℕ → Bool) (xs : List ℕ) → T (anyOf f xs) → (p : ℕ) × In p xs × T (f p)
 any-some f [] t = absurd t
-any-some f (x ∷ xs) t = go (T-or (f x) (anyOf f xs) t) (any-some f xs)
-  where
-    go : T (f x) ⊎ T (anyOf f xs) → (T (anyOf f xs) → (p : ℕ) × In p xs × T (f p)) → (p : ℕ) × In p (x ∷ xs) × T (f p)
-    go (inl y) ih = (x, inl refl, y)
-    go (inr y) ih = let r = ih y in (r .0, inr (r .1), r .2)
+any-some f (x ∷ xs) t = elim (T-or (f x) (anyOf f xs) t) [ inl y ↦ (x, inl refl, y) | inr y ↦ let r = any-some f xs y in (r .0, inr (r .1), r .2) ]
 
 some-any : (f : ℕ → Bool) (xs : List ℕ) (p : ℕ) → In p xs → T (f p) → T (anyOf f xs)
 some-any f [] p i t = i
@@ -158,10 +154,6 @@ module _ (o : RunnerConfig) (w h : ℕ) where
         go (r .0) (r .1) (member (r .0) (holePixels s (cluster s k .holes))) refl
         (allIn (λ q. member q (cluster s k .pixels) && not (member q (holePixels s (cluster s k .holes)))) (sides w h (r .0))) refl (r .2)
       where
-        fst : (a b : Bool) → T (a && b) → T a
-        fst true b t = tt
-        fst false b t = t
-
         go : (p : ℕ) → In p (cluster s k .pixels) → (b : Bool) → member p (holePixels s (cluster s k .holes)) ≡ b
             → (c : Bool) → allIn (λ q. member q (cluster s k .pixels) && not (member q (holePixels s (cluster s k .holes)))) (sides w h p) ≡ c → not b && not c ≡ false → Core (ledger (s .log) k)
         go p i true e c z y =
@@ -172,7 +164,7 @@ module _ (o : RunnerConfig) (w h : ℕ) where
           p,
           subst T (member-held B k p) (in-member p (cluster s k .pixels) i),
           allIn-mono (λ q. member q (cluster s k .pixels) && not (member q (holePixels s (cluster s k .holes)))) (ledger (s .log) k)
-              (λ q t. subst T (member-held B k q) (fst (member q (cluster s k .pixels)) (not (member q (holePixels s (cluster s k .holes)))) t)) (sides w h p) (subst T (sym z) tt),
+              (λ q t. subst T (member-held B k q) (T-both (member q (cluster s k .pixels)) (not (member q (holePixels s (cluster s k .holes)))) t .0)) (sides w h p) (subst T (sym z) tt),
         )
         go p i false e false z y = absurd (true≢false y)
 

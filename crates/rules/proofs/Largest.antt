@@ -1,7 +1,7 @@
 -- "No larger area is listed" is "no slot has a larger pixel count".
 use mathlib.Core.Path.{_≡_, refl, sym, ap, _∙_, subst}
 use mathlib.Core.Logic.{_⊎_, inl, inr}
-use mathlib.Core.Bool.{Bool, true, false, _&&_}
+use mathlib.Core.Bool.{Bool, true, false}
 use mathlib.Core.List.{List, [], _∷_}
 use Prim.Native.Nat.{ℕ, zero, suc, _+_, _*_, _≤_, _<_, max}
 use native.Mathlib.Decide.{ℕ-discrete, decLt}
@@ -16,7 +16,7 @@ use Rattle.rules.specs.Run.{stage1}
 use Rattle.rules.specs.Ledger.{ledger}
 use Rattle.rules.specs.Claim.{Stands}
 use Rattle.rules.specs.Order.{largest, start, turns}
-use Rattle.rules.proofs.Facts.{countOf-some, countOf-none, same-bool}
+use Rattle.rules.proofs.Facts.{countOf-some, countOf-none, same-bool, T-both, T-and}
 use Rattle.rules.proofs.Basic.{Basic, Moved, three}
 use Rattle.rules.proofs.Visits.{Going, Near, visit-cases, isolated-cases, merge-changes, deepen-changes, merge-from, deepen-from}
 use Rattle.rules.proofs.Early.{settled}
@@ -154,22 +154,14 @@ module _ {image : List ℕ} {size : ℕ} where
   none-above o w h a k s G L P = same-bool (noneAbove a (s .listed)) (leb (largest (s .clusters)) a) (λ t. le→leb (largest (s .clusters)) a (largest-le (s .clusters) a (down t)))
       (λ t. back (s .listed) (λ x i. let y = P .tops x i in omega (arith, y .1, largest-ge (s .clusters) (y .0), leb→le (largest (s .clusters)) a t)))
     where
-      fst : (b c : Bool) → T (b && c) → T b × T c
-      fst true c t = (tt, t)
-      fst false c t = absurd t
-
-      both : (b c : Bool) → T b → T c → T (b && c)
-      both true c x y = y
-      both false c x y = x
-
       below : (l : List ℕ) → T (noneAbove a l) → (x : ℕ) → In x l → x ≤ a
       below [] t x i = absurd i
-      below (y ∷ ys) t x (inl e) = let z : y ≤ a = leb→le y a (fst (leb y a) (noneAbove a ys) t .0) in omega arith
-      below (y ∷ ys) t x (inr i) = below ys (fst (leb y a) (noneAbove a ys) t .1) x i
+      below (y ∷ ys) t x (inl e) = let z : y ≤ a = leb→le y a (T-both (leb y a) (noneAbove a ys) t .0) in omega arith
+      below (y ∷ ys) t x (inr i) = below ys (T-both (leb y a) (noneAbove a ys) t .1) x i
 
       back : (l : List ℕ) → ((x : ℕ) → In x l → x ≤ a) → T (noneAbove a l)
       back [] f = tt
-      back (y ∷ ys) f = both (leb y a) (noneAbove a ys) (le→leb y a (f y (inl refl))) (back ys (λ x i. f x (inr i)))
+      back (y ∷ ys) f = T-and (leb y a) (noneAbove a ys) (le→leb y a (f y (inl refl))) (back ys (λ x i. f x (inr i)))
 
       down : T (noneAbove a (s .listed)) → (j : ℕ) → area (cluster s j) ≤ a
       down t j = go (decLt 0 (area (cluster s j))) (ℕ-discrete (cluster s j .mergedInto) 0)

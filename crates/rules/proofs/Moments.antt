@@ -19,7 +19,7 @@ use Rattle.rules.specs.Claim.{countOf, Stands}
 use Rattle.rules.specs.Moments.{Trace, begun, noted, notedPass, notedPasses, traced, moments, suffixes, Merges, logs, Each, Newest, Oldest}
 use Rattle.rules.specs.Demand3.{Discarded, Agrees}
 use Rattle.rules.proofs.Owned.{owned}
-use Rattle.rules.proofs.Facts.{T-dec, eqb-no, countOf-some, countOf-none}
+use Rattle.rules.proofs.Facts.{T-dec, eqb-no, countOf-some, countOf-none, T-both, T-and}
 use Rattle.rules.proofs.Forest.{inside-not}
 use Rattle.rules.proofs.Basic.{Basic}
 use Rattle.rules.proofs.Sound.{Sound}
@@ -39,14 +39,6 @@ find f (suc n) = pick (T-dec (f n)) (find f n)
     pick (yes t) r = yes (n, omega arith, t)
     pick (no t) (yes r) = yes (r .0, omega (arith, r .1), r .2)
     pick (no t) (no r) = no (λ x. elim (ℕ-discrete (x .0) n) [ yes e ↦ t (subst (λ m. T (f m)) e (x .2)) | no d ↦ r (x .0, omega (arith, x .1), x .2) ])
-
-both : (a b : Bool) → T a → T b → T (a && b)
-both true b x y = y
-both false b x y = x
-
-one-of : (a b : Bool) → T (a && b) → T a × T b
-one-of true b x = (tt, x)
-one-of false b x = absurd x
 
 -- a sum counts a pixel exactly when its cluster stands
 pub counted : {image : List ℕ} {size : ℕ} {h : Held} {s : State} → Basic image size h s → (k : ℕ) → (0 < cluster s k .sum .count) ↔ Stands h k
@@ -68,8 +60,8 @@ module _ (o : RunnerConfig) (w height : ℕ) (image : List ℕ) where
     placed = λ j p x. (subst (λ m. p < m) (B .width) (B .places j p x), B .slots j p x);
     counts = counted B;
     whole = λ i j. by-cases (find (λ p. ledger (s .log) i p && ledger (s .log) j p) (w * height))
-        (λ x. let y = one-of (ledger (s .log) i (x .0)) (ledger (s .log) j (x .0)) (x .2) in inr (agrees S .whole i j (x .0) (y .0) (y .1)))
-        (λ n. inl (λ p x y. n (p, subst (λ m. p < m) (B .width) (B .places i p x), both (ledger (s .log) i p) (ledger (s .log) j p) x y)));
+        (λ x. let y = T-both (ledger (s .log) i (x .0)) (ledger (s .log) j (x .0)) (x .2) in inr (agrees S .whole i j (x .0) (y .0) (y .1)))
+        (λ n. inl (λ p x y. n (p, subst (λ m. p < m) (B .width) (B .places i p x), T-and (ledger (s .log) i p) (ledger (s .log) j p) x y)));
     distinct = agrees S .distinct;
     labelled = λ p l n. top p (here p (E .covered p l) n);
     discarded = λ j p d x. let y = A p .1 (j, x) in E .never (y .0) p (y .1) d;

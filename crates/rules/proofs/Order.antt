@@ -338,11 +338,9 @@ turn-idle o w h q e = ap (λ p. turnOf o w h p q) e
 pub turns-idle : (o : RunnerConfig) (w h : ℕ) (q : Queue) (m : ℕ) → pick (turns o w h m q .keys) ≡ off → (n : ℕ) → m ≤ n → turns o w h n q ≡ turns o w h m q
 unfolding turns
 turns-idle o w h q m e zero l = ap (λ x. turns o w h x q) (let z : 0 ≡ m = omega arith in z)
-turns-idle o w h q m e (suc n) l = go (ℕ-discrete (suc n) m) (turns-idle o w h q m e n)
-  where
-    go : Dec (suc n ≡ m) → (m ≤ n → turns o w h n q ≡ turns o w h m q) → turns o w h (suc n) q ≡ turns o w h m q
-    go (yes z) ih = ap (λ x. turns o w h x q) z
-    go (no z) ih = ap (turn o w h) (ih (omega arith)) ∙ turn-idle o w h (turns o w h m q) e
+turns-idle o w h q m e (suc n) l = by-cases (ℕ-discrete (suc n) m)
+    (λ z. ap (λ x. turns o w h x q) z)
+    (λ z. ap (turn o w h) (turns-idle o w h q m e n (omega arith)) ∙ turn-idle o w h (turns o w h m q) e)
 
 module _ (o : RunnerConfig) (w h : ℕ) (image : List ℕ) where
   start-queued : Queued 1 0 (prepareStage2 (stage1 o w h image)) (start (prepareStage2 (stage1 o w h image)) .keys)

@@ -19,7 +19,7 @@ use Rattle.rules.specs.Claim.{occurs, bit}
 use Rattle.rules.specs.Ranges.{Below}
 use Rattle.rules.specs.Paint.{reads, Painted, slotNumber, fiveFrom, sumOf, residueOf, pixelsOf, entryAnswer, entriesAnswer, paintSlot, paintEntries, painting, Lies}
 use Rattle.rules.specs.Demand3.{Agrees}
-use Rattle.rules.proofs.Facts.{eqb-no, eqb-yes, bit-T}
+use Rattle.rules.proofs.Facts.{eqb-no, eqb-yes, bit-T, T-and}
 use Rattle.rules.proofs.Visits.{eqb-is}
 use Rattle.rules.proofs.Outputs.{In}
 use Rattle.rules.proofs.Pictures.{Paintable, run-paintable}
@@ -55,13 +55,9 @@ module _ (size : ℕ) (s : State) (ls : List ℕ) (same : (p : ℕ) → p < size
   reads-walk (suc c) (suc p) e b =
       let r = reads-walk c (link s p) (omega arith) (b .1) in
       let q : getD ls p 0 ≡ link s p = same p (b .0) in (
-        both (ltb p size) (reads size ls (getD ls p 0) c) (lt→ltb p size (b .0)) (subst (λ x. T (reads size ls x c)) (sym q) (r .0)),
+        T-and (ltb p size) (reads size ls (getD ls p 0) c) (lt→ltb p size (b .0)) (subst (λ x. T (reads size ls x c)) (sym q) (r .0)),
         ap (λ l. p ∷ l) (ap (λ x. walk (λ y. getD ls y 0) x c) q ∙ r .1),
       )
-    where
-      both : (x y : Bool) → T x → T y → T (x && y)
-      both true y a b = b
-      both false y a b = a
 
 pub has-average : (x : ColorSum) → 0 < x .count → x .r ≤ 255 * x .count → x .g ≤ 255 * x .count → x .b ≤ 255 * x .count → x .a ≤ 255 * x .count → T (hasAverage x)
 unfolding hasAverage

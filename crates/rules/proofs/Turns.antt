@@ -99,11 +99,9 @@ turn-grows o w h q = go (pick (q .keys))
 turns-grow : (o : RunnerConfig) (w h : ℕ) (q : Queue) (m n : ℕ) → m ≤ n → length (turns o w h m q .now .outputs) ≤ length (turns o w h n q .now .outputs)
 unfolding turns
 turns-grow o w h q m zero l = subst (λ x. length (turns o w h m q .now .outputs) ≤ length (turns o w h x q .now .outputs)) (let z : m ≡ 0 = omega arith in z) (omega arith)
-turns-grow o w h q m (suc n) l = go (ℕ-discrete m (suc n)) (turns-grow o w h q m n)
-  where
-    go : Dec (m ≡ suc n) → (m ≤ n → length (turns o w h m q .now .outputs) ≤ length (turns o w h n q .now .outputs)) → length (turns o w h m q .now .outputs) ≤ length (turns o w h (suc n) q .now .outputs)
-    go (yes e) ih = subst (λ x. length (turns o w h m q .now .outputs) ≤ length (turns o w h x q .now .outputs)) e (omega arith)
-    go (no d) ih = omega (arith, ih (omega arith), turn-grows o w h (turns o w h n q))
+turns-grow o w h q m (suc n) l = by-cases (ℕ-discrete m (suc n))
+    (λ e. subst (λ x. length (turns o w h m q .now .outputs) ≤ length (turns o w h x q .now .outputs)) e (omega arith))
+    (λ d. omega (arith, turns-grow o w h q m n (omega arith), turn-grows o w h (turns o w h n q)))
 
 -- before and after every turn there are at most 2 × w × h entries
 pub turns-outputs : (o : RunnerConfig) (w h : ℕ) (image : List ℕ) (m : ℕ) → length (turns o w h m (start (prepareStage2 (stage1 o w h image))) .now .outputs) ≤ 2 * (w * h)

@@ -174,11 +174,7 @@ module _ {image : List ℕ} {size : ℕ} where
     stands = bit-T (ledger (s .log) k first) (λ z. occurs-first (cluster s k .pixels) (omega arith) (G .sound .basic .lists k first ∙ z))
 
     pub root : cluster s k .mergedInto ≡ 0
-    root = elim (ℕ-discrete (cluster s k .mergedInto) 0) [ yes z ↦ z | no z ↦ absurd (never (G .past k z)) ]
-      where
-        never : (area (cluster s k) < a) ⊎ ((area (cluster s k) ≡ a) × (k < k)) → ⊥
-        never (inl x) = omega arith
-        never (inr x) = omega arith
+    root = elim (ℕ-discrete (cluster s k .mergedInto) 0) [ yes z ↦ z | no z ↦ absurd (elim (G .past k z) [ inl x ↦ omega arith | inr x ↦ omega arith ]) ]
 
     pub mine : label s first ≡ k
     mine = G .sound .tops k first stands root

@@ -1,7 +1,7 @@
 -- One turn of a loop that goes along the links and counts down.
 use mathlib.Core.Path.{_≡_, refl}
 use mathlib.Core.Logic.{by-cases}
-use mathlib.Core.Bool.{Bool, true, false, _&&_, _||_}
+use mathlib.Core.Bool.{true, false, _||_}
 use mathlib.Core.List.{List, [], _∷_}
 use Prim.Native.Nat.{ℕ, zero, suc, _-_, _≤_, _<_}
 use native.Mathlib.Decide.{decLt}
@@ -13,7 +13,7 @@ use lib.ListN.{getD}
 use Rattle.rules.specs.Base.{if_then_else_}
 use Rattle.rules.specs.Layout.{walk}
 use Rattle.rules.specs.Paint.{reads}
-use Rattle.rules.proofs.Facts.{is-true, is-false, eqb-no}
+use Rattle.rules.proofs.Facts.{is-true, is-false, eqb-no, T-both}
 
 -- the place that the chain goes on at, and the rest of the chain
 pub record Step (size : ℕ) (links : List ℕ) (at left : ℕ) : Type 0 where
@@ -27,17 +27,13 @@ unfolding walk
 step size links at zero l r = absurd (not-suc-le-zero l)
 step size links zero (suc n) l r = absurd r
 step size links (suc p) (suc n) l r =
-    let b = both (ltb p size) _ r in
+    let b = T-both (ltb p size) _ r in
     record {
       some = omega arith;
       within = omega (arith, ltb→lt p size (b .0));
       rest = rw (sub-one (suc n), sub-one (suc p)) (b .1);
       here = rw (sub-one (suc n), sub-one (suc p)) refl;
     }
-  where
-    both : (x y : Bool) → T (x && y) → T x × T y
-    both true y t = (tt, t)
-    both false y t = absurd t
 
 -- the end of the chain
 pub walk-none : (next : ℕ → ℕ) (at left : ℕ) → left ≤ 0 → walk next at left ≡ []

@@ -1,7 +1,7 @@
 -- What a sound state has of demand 3; stage 1 and stage 2 of every run; merges change nothing in which pixels are held.
 use mathlib.Core.Path.{_≡_, refl, sym, subst}
 use mathlib.Core.Logic.{_↔_, _≢_, _⊎_, inl, inr}
-use mathlib.Core.Bool.{Bool, true, false, _&&_, true≢false}
+use mathlib.Core.Bool.{Bool, true, false}
 use mathlib.Core.List.{List}
 use Prim.Native.Nat.{ℕ, zero, suc, _*_, _≤_, _<_}
 use native.Mathlib.Decide.{ℕ-discrete}
@@ -16,7 +16,7 @@ use Rattle.rules.specs.Run.{stage1, stage2}
 use Rattle.rules.specs.Ledger.{Held, enter, ledger}
 use Rattle.rules.specs.Demand3.{Discarded}
 use Rattle.rules.specs.Claim.{bit, occurs, tally, countOf, Stands, Holds, InResidue}
-use Rattle.rules.proofs.Facts.{countOf-lt, countOf-some}
+use Rattle.rules.proofs.Facts.{countOf-lt, countOf-some, T-both, both-true, is-true}
 use Rattle.rules.proofs.Forest.{Inside, residue-in, residue-out}
 use Rattle.rules.proofs.Sound.{Sound}
 use Rattle.rules.proofs.Visits.{Going, passes-going, eqb-is}
@@ -83,19 +83,10 @@ early-at o w h image n le = taken-early o w gone keyed wide only fresh-early n l
     gone p a b = rw (a, b) tt
 
     keyed : (p : ℕ) → isKey o image p ≡ true → T (keyingOn o)
-    keyed p e = on (keyingOn o) (equalColor (pixel image p) (o .keyColor)) e
-      where
-        on : (a b : Bool) → a && b ≡ true → T a
-        on true b x = tt
-        on false b x = true≢false (sym x)
+    keyed p e = T-both (keyingOn o) (equalColor (pixel image p) (o .keyColor)) (subst T (sym e) tt) .0
 
     only : (p : ℕ) → Discarded o image p → (isKey o image p ≡ true) × (isDiscard (o .keyingAction) ≡ true)
-    only p x = two (isKey o image p) (isDiscard (o .keyingAction)) x
-      where
-        two : (a b : Bool) → T (a && b) → (a ≡ true) × (b ≡ true)
-        two true true t = (refl, refl)
-        two true false t = absurd t
-        two false b t = absurd t
+    only p x = both-true (isKey o image p) (isDiscard (o .keyingAction)) (is-true _ x)
 
     wide : (p : ℕ) → p < w * h → 0 < w
     wide p l = pos w l

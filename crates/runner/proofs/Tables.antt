@@ -2,7 +2,7 @@
 use mathlib.Core.Bool.{Bool, true, false, _&&_}
 use mathlib.Core.Path.{_≡_, refl, sym, _∙_, subst}
 use mathlib.Core.List.{List, [], _∷_}
-use mathlib.Core.Logic.{_≢_, _⊎_, inl, inr}
+use mathlib.Core.Logic.{_≢_, _⊎_, inl, inr, by-cases}
 use Prim.Native.Nat.{ℕ, suc, _+_, _-_, _*_, _/_, _%_, _≤_, _<_}
 use native.Mathlib.Decide.{ℕ-discrete, decLt}
 use native.Mathlib.Omega.{arith}
@@ -44,15 +44,9 @@ store-out t base j (v ∷ vs) i (inr h) = store-out (set t (base + j) v) base (s
 -- what is stored
 pub store-in : (t : List ℕ) (base j : ℕ) (vs : List ℕ) (f : ℕ) → j ≤ f → f < j + length vs → base + (j + length vs) ≤ length t → getD (store t base j vs) (base + f) 0 ≡ getD vs (f - j) 0
 store-in t base j [] f l u h = absurd (omega arith)
-store-in t base j (v ∷ vs) f l u h = go (ℕ-discrete f j) (store-in (set t (base + j) v) base (suc j) vs f)
-  where
-    go : Dec (f ≡ j) → (suc j ≤ f → f < suc j + length vs → base + (suc j + length vs) ≤ length (set t (base + j) v) → getD (store (set t (base + j) v) base (suc j) vs) (base + f) 0 ≡ getD vs (f - suc j) 0) → getD (store (set t (base + j) v) base (suc j) vs) (base + f) 0 ≡ getD (v ∷ vs) (f - j) 0
-    go (yes z) ih =
-        let d : f - j ≡ 0 = omega arith in
-        rw d (store-out (set t (base + j) v) base (suc j) vs (base + f) (inl (omega arith)) ∙ (rw z (getD-set-same t (base + j) v 0 (omega arith))))
-    go (no z) ih =
-        let d : f - j ≡ suc (f - suc j) = omega arith in
-        rw d (ih (omega arith) (omega arith) (simp length-set (omega arith)))
+store-in t base j (v ∷ vs) f l u h = by-cases (ℕ-discrete f j)
+    (λ z. let d : f - j ≡ 0 = omega arith in rw d (store-out (set t (base + j) v) base (suc j) vs (base + f) (inl (omega arith)) ∙ (rw z (getD-set-same t (base + j) v 0 (omega arith)))))
+    (λ z. let d : f - j ≡ suc (f - suc j) = omega arith in rw d (store-in (set t (base + j) v) base (suc j) vs f (omega arith) (omega arith) (simp length-set (omega arith))))
 
 -- the numbers written
 pub written-in : (σ : ℕ → ℕ → ℕ) (k j : ℕ) (vs : List ℕ) (f : ℕ) → j ≤ f → f < j + length vs → written σ k j vs k f ≡ getD vs (f - j) 0

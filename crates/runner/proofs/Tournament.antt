@@ -83,11 +83,9 @@ module _ (queue : List ℕ) (n room : ℕ) (H : Tree queue n room) where
   -- the root comes before every position
   root-before : (m x : ℕ) → x ≤ m → 1 ≤ x → x < 2 * n → Before (entryAt queue n room 1) (entryAt queue n room x)
   root-before zero x l a b = absurd (omega arith)
-  root-before (suc m) x l a b = go (ℕ-discrete x 1) (root-before m (x / 2))
-    where
-      go : Dec (x ≡ 1) → (x / 2 ≤ m → 1 ≤ x / 2 → x / 2 < 2 * n → Before (entryAt queue n room 1) (entryAt queue n room (x / 2))) → Before (entryAt queue n room 1) (entryAt queue n room x)
-      go (yes e) R = subst (λ y. Before (entryAt queue n room 1) (entryAt queue n room y)) (sym e) (before-refl (entryAt queue n room 1))
-      go (no d) R = before-trans (entryAt queue n room 1) (entryAt queue n room (x / 2)) (entryAt queue n room x) (R (omega arith) (omega arith) (omega arith)) (above x (omega arith) b)
+  root-before (suc m) x l a b = by-cases (ℕ-discrete x 1)
+      (λ e. subst (λ y. Before (entryAt queue n room 1) (entryAt queue n room y)) (sym e) (before-refl (entryAt queue n room 1)))
+      (λ d. before-trans (entryAt queue n room 1) (entryAt queue n room (x / 2)) (entryAt queue n room x) (root-before m (x / 2) (omega arith) (omega arith) (omega arith)) (above x (omega arith) b))
 
   -- every position holds some slot with its key
   some-leaf : (m x : ℕ) → 2 * n ≤ x + m → 1 ≤ x → x < 2 * n → (k : ℕ) × (k < n) × (entryAt queue n room x ≡ leaf queue k)
