@@ -7,6 +7,7 @@ use mathlib.Core.List.{List, [], _∷_}
 use Prim.Native.Nat.{ℕ, zero, suc, _+_, _*_, _≤_, _<_}
 use native.Mathlib.Decide.{ℕ-discrete}
 use native.Mathlib.Omega.{arith}
+use borrow.Author.Tests.{ltb-true}
 use lib.Dec.{T, eqb, ltb, leb, eqb→eq, eqb-refl, ltb→lt, lt→ltb, leb→le, le→leb}
 use lib.ListN.{length, getD, length-append, length-map}
 use Rattle.rules.specs.Base.{times}
@@ -53,7 +54,7 @@ wait-out a k s j x = (
 )
   where
     pick : (b : Bool) → ltb a (area (cluster s j)) ≡ b → T (b || (eqb (area (cluster s j)) a && leb k j)) → Wait a k s j
-    pick true e y = inl (ltb→lt a (area (cluster s j)) (subst T (sym e) tt))
+    pick true e y = inl (ltb-true a (area (cluster s j)) e)
     pick false e y = inr (eqb→eq (area (cluster s j)) a (T-both (eqb (area (cluster s j)) a) (leb k j) y .0), leb→le k j (T-both (eqb (area (cluster s j)) a) (leb k j) y .1))
 
 pub wait-in : (a k : ℕ) (s : State) (j : ℕ) → Root s j → Wait a k s j → T (waiting a k s j)

@@ -9,7 +9,8 @@ use Prim.Native.Nat.{ℕ, zero, suc, _+_, _-_, _/_, _%_, _≤_, _<_}
 use native.Mathlib.Decide.{ℕ-discrete}
 use native.Mathlib.Nat.{mod-le}
 use native.Mathlib.Omega.{arith}
-use lib.Dec.{T, not-T, eqb, ltb, leb, leb→le, ltb→lt, lt→ltb, nltb→le}
+use borrow.Author.Tests.{eqb-true, leb-true, ltb-false, ltb-true}
+use lib.Dec.{T, not-T, eqb, ltb, leb, ltb→lt, lt→ltb, nltb→le}
 use lib.ListN.{length, getD, set, replicate, length-set, length-append, length-replicate, List·getD-append, List·getD-eq-default, List·getD-map, length-map}
 use lib.Seq.{getD-set-same, getD-set-other, getD-append-seam}
 use Rattle.rules.specs.Base.{if_then_else_, times}
@@ -26,7 +27,7 @@ use Rattle.rules.proofs.Facts.{is-true, is-false, T-dec, T-or-r, eqb-ye
 use Rattle.rules.proofs.Forest.{flat}
 use Rattle.rules.proofs.Basic.{Basic, Moved, three, plain-down, plain-to, plain-up, lab-from, lab-other, plain-basic, combine-f, combine-t, combine-moved}
 use Rattle.rules.proofs.Sound.{Sound}
-use Rattle.rules.proofs.Visits.{Going, eqb-is}
+use Rattle.rules.proofs.Visits.{Going}
 
 -- Gone p: p is a discarded pixel. Keyed: keying is on.
 pub record Early (image : List ℕ) (size : ℕ) (Gone : ℕ → Type 0) (Keyed : Type 0) (i : ℕ) (s : State) : Type 0 where
@@ -67,7 +68,7 @@ module _ (g : Held) (i k : ℕ) where
   added-down j q x = pick (eqb j k) refl (eqb q i) refl x
     where
       pick : (b : Bool) → eqb j k ≡ b → (c : Bool) → eqb q i ≡ c → T ((b && c) || g j q) → ((j ≡ k) × (q ≡ i)) ⊎ T (g j q)
-      pick true e true d y = inl (eqb-is j k e, eqb-is q i d)
+      pick true e true d y = inl (eqb-true j k e, eqb-true q i d)
       pick true e false d y = inr y
       pick false e c d y = inr y
 
@@ -100,7 +101,7 @@ pub record Placed (cs cs′ : List Cluster) (n : ℕ) (x : Cluster) : Type 0 whe
 
 pub placed : (cs : List Cluster) (n : ℕ) (x : Cluster) → n ≤ length cs → (c : Bool) → ltb n (length cs) ≡ c → Placed cs (if c then set cs n x else cs ++ (x ∷ [])) n x
 placed cs n x r true e =
-    let l : n < length cs = ltb→lt n (length cs) (subst T (sym e) tt) in
+    let l : n < length cs = ltb-true n (length cs) e in
     record { here = getD-set-same cs n x newCluster l; other = λ j d. getD-set-other cs n j x newCluster d; grows = omega (arith, length-set cs n x); holds = omega (arith, length-set cs n x); short = omega (arith, length-set cs n x) }
 placed cs n x r false e =
     record {
@@ -112,7 +113,7 @@ placed cs n x r false e =
     }
   where
     q : length cs ≡ n
-    q = let l : length cs ≤ n = nltb→le n (length cs) (subst (λ b. T (not b)) (sym e) tt) in omega arith
+    q = let l : length cs ≤ n = ltb-false n (length cs) e in omega arith
 
     m : length (cs ++ (x ∷ [])) ≡ length cs + 1
     m = length-append cs (x ∷ [])
@@ -147,7 +148,7 @@ unfolding left
 left-earlier w i pos = pick (ltb 0 (i % w)) refl
   where
     pick : (b : Bool) → ltb 0 (i % w) ≡ b → Earlier i (if b then some (i - 1) else off)
-    pick true e = let l : 0 < i % w = ltb→lt 0 (i % w) (subst T (sym e) tt) in omega (arith, mod-le i w)
+    pick true e = let l : 0 < i % w = ltb-true 0 (i % w) e in omega (arith, mod-le i w)
     pick false e = tt
 
 up-earlier : (w i : ℕ) → 0 < w → Earlier i (up w i)
@@ -155,7 +156,7 @@ unfolding up
 up-earlier w i pos = pick (leb w i) refl
   where
     pick : (b : Bool) → leb w i ≡ b → Earlier i (if b then some (i - w) else off)
-    pick true e = let l : w ≤ i = leb→le w i (subst T (sym e) tt) in omega arith
+    pick true e = let l : w ≤ i = leb-true w i e in omega arith
     pick false e = tt
 
 module _ {image : List ℕ} {size : ℕ} {Gone : ℕ → Type 0} {Keyed : Type 0} where
@@ -168,7 +169,7 @@ module _ {image : List ℕ} {size : ℕ} {Gone : ℕ → Type 0} {Keyed : Type 0
 
     new : (j : ℕ) → eqb j i ≡ true → T (h k j) → ⊥
     unfolding h
-    new j e x = let z : j < i = E .before k j x in let y : j ≡ i = eqb-is j i e in omega arith
+    new j e x = let z : j < i = E .before k j x in let y : j ≡ i = eqb-true j i e in omega arith
 
     at-i : label s′ i ≡ k
     at-i = ap (λ l. getD l i 0) (A .labels) ∙ getD-set-same (s .labels) i k 0 (omega (arith, E .basic .width))
@@ -437,10 +438,10 @@ module _ {image : List ℕ} {size : ℕ} {Gone : ℕ → Type 0} {Keyed : Type 0
 
       pick : (b : Bool) → eqb (l + 1) (s .next) ≡ b → (c : Bool) → Early image size Gone Keyed i (with (if b && c then s .next - 1 else s .next)) × (u < (if b && c then s .next - 1 else s .next))
       pick true e true =
-          let q : l + 1 ≡ s .next = eqb-is (l + 1) (s .next) e in (
+          let q : l + 1 ≡ s .next = eqb-true (l + 1) (s .next) e in (
             keep (s .next - 1) (omega arith) (omega arith) (λ k p y x. by-cases (ℕ-discrete k l)
                 (λ z. empty p (subst (λ m. T (ledger (s .log) m p)) z x))
-                (λ z. let q : l + 1 ≡ s .next = eqb-is (l + 1) (s .next) e in E .free k p (omega arith) x)),
+                (λ z. let q : l + 1 ≡ s .next = eqb-true (l + 1) (s .next) e in E .free k p (omega arith) x)),
             omega arith,
           )
       pick true e false = (keep (s .next) (omega arith) (E .some) (E .free), hu)

@@ -268,11 +268,7 @@ same-bool false false f g = refl
 pub countOf-bound : (f : ℕ → Bool) (n : ℕ) → countOf f n ≤ n
 unfolding countOf
 countOf-bound f zero = omega arith
-countOf-bound f (suc n) = pick (f n) (countOf-bound f n)
-  where
-    pick : (b : Bool) → countOf f n ≤ n → bit b + countOf f n ≤ suc n
-    pick true l = omega arith
-    pick false l = omega arith
+countOf-bound f (suc n) = elim (f n) as (λ b. countOf f n ≤ n → bit b + countOf f n ≤ suc n) [ true ↦ λ l. omega arith | false ↦ λ l. omega arith ] (countOf-bound f n)
 
 pub both-true : (a b : Bool) → (a && b) ≡ true → (a ≡ true) × (b ≡ true)
 both-true true b e = (refl, e)

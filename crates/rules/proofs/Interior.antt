@@ -8,6 +8,7 @@ use mathlib.Core.Option.{Option, some}
 use mathlib.Core.Option.{none as off}
 use Prim.Native.Nat.{ℕ, suc, _+_, _*_, _≤_, _<_}
 use native.Mathlib.Omega.{arith}
+use borrow.Author.Tests.{eqb-false, eqb-true, ltb-true}
 use lib.Dec.{T, eqb, ltb, lt→ltb, ltb→lt}
 use lib.ListN.{length, getD}
 use Rattle.rules.specs.Base.{if_then_else_, member, keep}
@@ -21,7 +22,7 @@ use Rattle.rules.specs.Ledger.{Held, enter, ledger}
 use Rattle.rules.specs.Claim.{bit, occurs, Stands, Holds}
 use Rattle.rules.proofs.Facts.{is-true, T-or, T-or-l, T-or-r, eqb-yes, eqb-no, keep-le, same-bool, T-both}
 use Rattle.rules.proofs.Basic.{Basic, Moved, three, plain-f, plain-o, plain-up, deepened-o, deepened-up, deepened-to}
-use Rattle.rules.proofs.Visits.{Going, Near, visit-cases-why, isolated-cases, eqb-is, eqb-ne, stands, root, k≢t, target-root, target-stands, merge-changes, deepen-changes, merge-to, deepen-from, deepen-to}
+use Rattle.rules.proofs.Visits.{Going, Near, visit-cases-why, isolated-cases, stands, root, k≢t, target-root, target-stands, merge-changes, deepen-changes, merge-to, deepen-from, deepen-to}
 use Rattle.rules.proofs.Early.{settled}
 use Rattle.rules.proofs.Slots.{stage1-slots}
 use Rattle.rules.proofs.Outputs.{In, in-snoc}
@@ -56,7 +57,7 @@ member-in q [] t = t
 member-in q (x ∷ xs) t = go (eqb q x) refl t (member-in q xs)
   where
     go : (b : Bool) → eqb q x ≡ b → T (b || member q xs) → (T (member q xs) → In q xs) → (q ≡ x) ⊎ In q xs
-    go true e y ih = inl (eqb-is q x e)
+    go true e y ih = inl (eqb-true q x e)
     go false e y ih = inr (ih y)
 
 member-append : (q : ℕ) (xs ys : List ℕ) → T (member q (xs ++ ys)) → T (member q xs) ⊎ T (member q ys)
@@ -209,7 +210,7 @@ module _ (o : RunnerConfig) (w h : ℕ) where
 
     -- some pixel, said with the ledger
     pub boundary-core : ltb (boundary w h s k) (area (cluster s k)) ≡ true → Core (ledger (s .log) k)
-    boundary-core e = core-from (ltb→lt (boundary w h s k) (area (cluster s k)) (subst T (sym e) tt))
+    boundary-core e = core-from (ltb-true (boundary w h s k) (area (cluster s k)) e)
 
   -- why it deepened
   deepens-boundary : (s : State) (k t : ℕ) → 1 ≤ o .goodMinArea → deepens o w h s k t ≡ true → ltb (boundary w h s k) (area (cluster s k)) ≡ true
@@ -332,4 +333,4 @@ deepens-interior o w h s B H k t =
   where
     pick : (b : Bool) → eqb (o .goodMinArea) 0 ≡ b → b || ltb (boundary w h s k) (area (cluster s k)) ≡ b || interior w h s k
     pick true e = refl
-    pick false e = boundary-interior o w h s B (H (let n : o .goodMinArea ≢ 0 = eqb-ne (o .goodMinArea) 0 e in omega arith)) k
+    pick false e = boundary-interior o w h s B (H (let n : o .goodMinArea ≢ 0 = eqb-false (o .goodMinArea) 0 e in omega arith)) k

@@ -5,6 +5,7 @@ use mathlib.Core.Bool.{Bool, true, false}
 use mathlib.Core.List.{List, [], _∷_, _++_}
 use Prim.Native.Nat.{ℕ, zero, suc, _<_}
 use native.Mathlib.Omega.{arith}
+use borrow.Author.Tests.{eqb-true}
 use lib.Dec.{T, eqb, ltb}
 use lib.ListN.{length, getD}
 use Rattle.rules.specs.Base.{if_then_else_, times, insert}
@@ -15,7 +16,7 @@ use Rattle.rules.specs.Ledger.{Held, enter, ledger}
 use Rattle.rules.specs.Claim.{Stands}
 use Rattle.rules.proofs.Facts.{eqb-no}
 use Rattle.rules.proofs.Basic.{Moved, three, plain-down, plain-o, deepened-o}
-use Rattle.rules.proofs.Visits.{Going, Near, visit-cases, isolated-cases, visit-going, pass-going, times-keep, eqb-is, stands, root, k≢t, merge-changes, deepen-changes, deepen-from}
+use Rattle.rules.proofs.Visits.{Going, Near, visit-cases, isolated-cases, visit-going, pass-going, times-keep, stands, root, k≢t, merge-changes, deepen-changes, deepen-from}
 use Rattle.rules.proofs.Early.{Early, settled}
 use Rattle.rules.proofs.Outputs.{In, area-pos}
 
@@ -35,7 +36,7 @@ insert-new a (y ∷ ys) = pick (ltb a y) (eqb a y) refl (insert-new a ys)
   where
     pick : (b c : Bool) → eqb a y ≡ c → In a (insert a ys) → In a (if b then a ∷ y ∷ ys else (if c then y ∷ ys else y ∷ insert a ys))
     pick true c e ih = inl refl
-    pick false true e ih = inl (eqb-is a y e)
+    pick false true e ih = inl (eqb-true a y e)
     pick false false e ih = inr ih
 
 areas-old : (x : ℕ) (cs : List Cluster) (l : List ℕ) → In x l → In x (areasOf cs l)
@@ -53,7 +54,7 @@ areas-in k [] l p = absurd (omega arith)
 areas-in zero (c ∷ cs) l p = areas-old (area c) cs (if eqb (area c) 0 then l else insert (area c) l) (pick (eqb (area c) 0) refl)
   where
     pick : (b : Bool) → eqb (area c) 0 ≡ b → In (area c) (if b then l else insert (area c) l)
-    pick true e = let z : area c ≡ 0 = eqb-is (area c) 0 e in absurd (omega arith)
+    pick true e = let z : area c ≡ 0 = eqb-true (area c) 0 e in absurd (omega arith)
     pick false e = insert-new (area c) l
 areas-in (suc k) (c ∷ cs) l p = areas-in k cs (if eqb (area c) 0 then l else insert (area c) l) p
 

@@ -6,7 +6,8 @@ use mathlib.Core.List.{List, [], _∷_, _++_}
 use Prim.Native.Nat.{ℕ, zero, suc, _*_, _<_}
 use native.Mathlib.Decide.{ℕ-discrete}
 use native.Mathlib.Omega.{arith}
-use lib.Dec.{T, ltb, lt→ltb, ltb→lt}
+use borrow.Author.Tests.{ltb-true}
+use lib.Dec.{T, ltb, lt→ltb}
 use lib.ListN.{length}
 use Rattle.rules.specs.Base.{if_then_else_, times}
 use Rattle.rules.specs.Color.{RunnerConfig, keyingOn}
@@ -126,7 +127,7 @@ pub same-moments : (s u : State) (ms : List State) → u .log ≡ s .log → (if
 same-moments s u ms e = pick (ltb (length (s .log)) (length (u .log))) refl
   where
     pick : (b : Bool) → ltb (length (s .log)) (length (u .log)) ≡ b → (if b then u ∷ ms else ms) ≡ ms
-    pick true z = absurd (let l : length (s .log) < length (u .log) = ltb→lt (length (s .log)) (length (u .log)) (subst T (sym z) tt) in omega (arith, ap length e))
+    pick true z = absurd (let l : length (s .log) < length (u .log) = ltb-true (length (s .log)) (length (u .log)) z in omega (arith, ap length e))
     pick false z = refl
 
 -- it logged an event: one moment

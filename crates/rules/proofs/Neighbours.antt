@@ -1,14 +1,15 @@
 -- The neighbours of a cluster as a set, their number, and the target as the least by difference and number: what a scan with marks finds.
 use mathlib.Core.Path.{_≡_, refl, sym, ap, ap₂, _∙_, subst}
 use mathlib.Core.Logic.{_↔_, _≢_, _⊎_, inl, inr, by-cases}
-use mathlib.Core.Bool.{Bool, true, false, not, _||_}
+use mathlib.Core.Bool.{Bool, true, false, _||_}
 use mathlib.Core.List.{List, [], _∷_}
 use mathlib.Core.Option.{Option, some}
 use mathlib.Core.Option.{none as off}
 use Prim.Native.Nat.{ℕ, zero, suc, _+_, _≤_, _<_}
 use native.Mathlib.Decide.{decLt}
 use native.Mathlib.Omega.{arith}
-use lib.Dec.{T, eqb, ltb, ltb→lt, nltb→le, eqb→eq}
+use borrow.Author.Tests.{eqb-false, eqb-true, ltb-false, ltb-true}
+use lib.Dec.{T, eqb, ltb, eqb→eq}
 use lib.ListN.{length, getD}
 use Rattle.rules.specs.Base.{if_then_else_, member, insert, least}
 use Rattle.rules.specs.Color.{RunnerConfig, _⊕_}
@@ -17,7 +18,7 @@ use Rattle.rules.specs.State.{State, cluster, label}
 use Rattle.rules.specs.Stage2.{labelsAt, labelsAround, neighbours}
 use Rattle.rules.specs.Claim.{countOf}
 use Rattle.rules.proofs.Facts.{countOf-one, tally-or}
-use Rattle.rules.proofs.Visits.{All, insert-all, eqb-is, eqb-ne}
+use Rattle.rules.proofs.Visits.{All, insert-all}
 use Rattle.rules.proofs.Outputs.{In}
 use Rattle.rules.proofs.Pictures.{tally-count}
 use Rattle.rules.proofs.Listed.{insert-old, insert-new}
@@ -44,9 +45,9 @@ insert-rising a [] r = (tt, tt)
 insert-rising a (x ∷ xs) r = go (ltb a x) refl (eqb a x) refl (insert-rising a xs (r .1))
   where
     go : (b : Bool) → ltb a x ≡ b → (c : Bool) → eqb a x ≡ c → Rising (insert a xs) → Rising (if b then a ∷ x ∷ xs else (if c then x ∷ xs else x ∷ insert a xs))
-    go true e c d ih = let l : a < x = ltb→lt a x (subst T (sym e) tt) in ((l, all-map (λ y. x < y) (λ y. a < y) xs (λ y z. omega arith) (r .0)), r)
+    go true e c d ih = let l : a < x = ltb-true a x e in ((l, all-map (λ y. x < y) (λ y. a < y) xs (λ y z. omega arith) (r .0)), r)
     go false e true d ih = r
-    go false e false d ih = let l : x ≤ a = nltb→le a x (subst (λ b. T (not b)) (sym e) tt) in let n : a ≢ x = eqb-ne a x d in (insert-all (λ y. x < y) a xs (omega arith) (r .0), ih)
+    go false e false d ih = let l : x ≤ a = ltb-false a x e in let n : a ≢ x = eqb-false a x d in (insert-all (λ y. x < y) a xs (omega arith) (r .0), ih)
 
 countOf-or : (a b : ℕ → Bool) → ((p : ℕ) → T (a p) → T (b p) → ⊥) → (n : ℕ) → countOf (λ p. a p || b p) n ≡ countOf a n + countOf b n
 unfolding _⊕_
@@ -99,8 +100,8 @@ least-is key x (y ∷ ys) r = go (ltb (key y) (key x)) refl (least-is key y ys (
         all j (inr (inr i)) = q .1 j (inr i)
 
     go : (b : Bool) → ltb (key y) (key x) ≡ b → Is (least key y ys) y ys → Is (least key x ys) x ys → Goal (if b then least key y ys else least key x ys)
-    go true e u v = right (ltb→lt (key y) (key x) (subst T (sym e) tt)) (least key y ys) u
-    go false e u v = left (nltb→le (key y) (key x) (subst (λ b. T (not b)) (sym e) tt)) (least key x ys) v
+    go true e u v = right (ltb-true (key y) (key x) e) (least key y ys) u
+    go false e u v = left (ltb-false (key y) (key x) e) (least key x ys) v
 
 -- only one entry is so
 pub least-unique : (key : ℕ → ℕ) (t u : ℕ) → (key t < key u) ⊎ ((key t ≡ key u) × (t ≤ u)) → (key u < key t) ⊎ ((key u ≡ key t) × (u ≤ t)) → t ≡ u
@@ -138,7 +139,7 @@ module _ (o : RunnerConfig) (w h : ℕ) (s : State) (own : ℕ) where
       pick false e false d x = side (insert-from t (label s i) found x)
         where
           side : (t ≡ label s i) ⊎ In t found → In t found ⊎ Seen (some i ∷ is) t
-          side (inl z) = inr ((λ y. eqb-ne (label s i) 0 e (sym z ∙ y)), (λ y. eqb-ne (label s i) own d (sym z ∙ y)), (i, inl refl, sym z))
+          side (inl z) = inr ((λ y. eqb-false (label s i) 0 e (sym z ∙ y)), (λ y. eqb-false (label s i) own d (sym z ∙ y)), (i, inl refl, sym z))
           side (inr z) = inl z
 
       to : In t new ⊎ Seen is t → In t found ⊎ Seen (some i ∷ is) t
@@ -150,8 +151,8 @@ module _ (o : RunnerConfig) (w h : ℕ) (s : State) (own : ℕ) where
       keep false x = insert-old t (label s i) found x
 
       fresh : (b : Bool) → eqb (label s i) 0 ≡ b → (c : Bool) → eqb (label s i) own ≡ c → t ≢ 0 → t ≢ own → label s i ≡ t → In t (if b || c then found else insert (label s i) found)
-      fresh true e c d m n z = absurd (m (sym z ∙ eqb-is (label s i) 0 e))
-      fresh false e true d m n z = absurd (n (sym z ∙ eqb-is (label s i) own d))
+      fresh true e c d m n z = absurd (m (sym z ∙ eqb-true (label s i) 0 e))
+      fresh false e true d m n z = absurd (n (sym z ∙ eqb-true (label s i) own d))
       fresh false e false d m n z = subst (λ x. In x (insert (label s i) found)) z (insert-new (label s i) found)
 
       from : In t found ⊎ Seen (some i ∷ is) t → In t new ⊎ Seen is t

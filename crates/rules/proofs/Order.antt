@@ -8,7 +8,8 @@ use mathlib.Core.Option.{none as off}
 use Prim.Native.Nat.{ℕ, zero, suc, _+_, _*_, _≤_, _<_}
 use native.Mathlib.Decide.{ℕ-discrete, decLt}
 use native.Mathlib.Omega.{arith}
-use lib.Dec.{T, eqb, ltb, lt→ltb, ltb→lt, nltb→le}
+use borrow.Author.Tests.{eqb-false, eqb-true, ltb-false, ltb-true}
+use lib.Dec.{T, eqb, ltb, lt→ltb}
 use lib.ListN.{length, getD, set, length-set, length-append, length-map, List·getD-map, List·getD-eq-default}
 use lib.Seq.{getD-set-same, getD-set-other}
 use Rattle.rules.specs.Base.{if_then_else_, times}
@@ -21,7 +22,7 @@ use Rattle.rules.specs.Order.{better, pick, target, rekey, Queue, queue,
 use Rattle.rules.specs.Demand3.{Discarded}
 use Rattle.rules.proofs.Facts.{standing, eqb-no, countOf-le, countOf-lt}
 use Rattle.rules.proofs.Basic.{Moved, three}
-use Rattle.rules.proofs.Visits.{Going, later, visit-cases, isolated-cases, visit-going, times-keep, eqb-is, eqb-ne, k≢t, t-slot, target-stands, merge-changes, merge-from, deepen-changes, deepen-from}
+use Rattle.rules.proofs.Visits.{Going, later, visit-cases, isolated-cases, visit-going, times-keep, k≢t, t-slot, target-stands, merge-changes, merge-from, deepen-changes, deepen-from}
 use Rattle.rules.proofs.Early.{Early, prepareStage2-going, settled}
 use Rattle.rules.proofs.Whole.{early, stage2-passes}
 use Rattle.rules.proofs.Outputs.{area-pos, area-le}
@@ -50,8 +51,8 @@ better-best keys m off x = go (eqb (getD keys m 0) 0) refl
     first j l n (no z) = absurd (n (x j (omega arith)))
 
     go : (c : Bool) → eqb (getD keys m 0) 0 ≡ c → Best keys (suc m) (if c then off else some m)
-    go true e = λ j l. all (eqb-is (getD keys m 0) 0 e) j l (ℕ-discrete j m)
-    go false e = (omega arith, eqb-ne (getD keys m 0) 0 e, λ j l n. first j l n (ℕ-discrete j m))
+    go true e = λ j l. all (eqb-true (getD keys m 0) 0 e) j l (ℕ-discrete j m)
+    go false e = (omega arith, eqb-false (getD keys m 0) 0 e, λ j l n. first j l n (ℕ-discrete j m))
 better-best keys m (some i) x = go (eqb (getD keys m 0) 0) refl (ltb (getD keys m 0) (getD keys i 0)) refl
   where
     old : (getD keys m 0 ≢ 0 → getD keys i 0 ≤ getD keys m 0) → (j : ℕ) → j < suc m → getD keys j 0 ≢ 0 → Dec (j ≡ m) → (getD keys i 0 < getD keys j 0) ⊎ ((getD keys i 0 ≡ getD keys j 0) × (i ≤ j))
@@ -66,9 +67,9 @@ better-best keys m (some i) x = go (eqb (getD keys m 0) 0) refl (ltb (getD keys 
     new l j b n (no z) = elim (x .2 j (omega arith) n) [ inl q ↦ inl (omega arith) | inr q ↦ inl (omega arith) ]
 
     go : (c : Bool) → eqb (getD keys m 0) 0 ≡ c → (d : Bool) → ltb (getD keys m 0) (getD keys i 0) ≡ d → Best keys (suc m) (if not c && d then some m else some i)
-    go true e d q = (omega (arith, x .0), x .1, λ j l n. old (λ y. absurd (y (eqb-is (getD keys m 0) 0 e))) j l n (ℕ-discrete j m))
-    go false e true q = (omega arith, eqb-ne (getD keys m 0) 0 e, λ j l n. new (ltb→lt (getD keys m 0) (getD keys i 0) (subst T (sym q) tt)) j l n (ℕ-discrete j m))
-    go false e false q = (omega (arith, x .0), x .1, λ j l n. old (λ y. nltb→le (getD keys m 0) (getD keys i 0) (subst (λ b. T (not b)) (sym q) tt)) j l n (ℕ-discrete j m))
+    go true e d q = (omega (arith, x .0), x .1, λ j l n. old (λ y. absurd (y (eqb-true (getD keys m 0) 0 e))) j l n (ℕ-discrete j m))
+    go false e true q = (omega arith, eqb-false (getD keys m 0) 0 e, λ j l n. new (ltb-true (getD keys m 0) (getD keys i 0) q) j l n (ℕ-discrete j m))
+    go false e false q = (omega (arith, x .0), x .1, λ j l n. old (λ y. ltb-false (getD keys m 0) (getD keys i 0) q) j l n (ℕ-discrete j m))
 
 -- what is picked is the least
 pub pick-best : (keys : List ℕ) → Best keys (length keys) (pick keys)
@@ -153,7 +154,7 @@ unfolding rekey
 rekey-still k s u keys e = go (ltb (length (s .log)) (length (u .log))) refl
   where
     go : (b : Bool) → ltb (length (s .log)) (length (u .log)) ≡ b → (if b then set (set keys k 0) (target (u .log)) (area (cluster u (target (u .log)))) else set keys k 0) ≡ set keys k 0
-    go true z = absurd (let l : length (s .log) < length (u .log) = ltb→lt (length (s .log)) (length (u .log)) (subst T (sym z) tt) in omega (arith, ap length e))
+    go true z = absurd (let l : length (s .log) < length (u .log) = ltb-true (length (s .log)) (length (u .log)) z in omega (arith, ap length e))
     go false z = refl
 
 pub rekey-moved : (k : ℕ) (s u : State) (keys : List ℕ) (x : Event) → u .log ≡ x ∷ s .log → rekey k s u keys ≡ set (set keys k 0) (target (u .log)) (area (cluster u (target (u .log))))

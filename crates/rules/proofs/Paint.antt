@@ -6,6 +6,7 @@ use mathlib.Core.List.{List, [], _∷_}
 use Prim.Native.Nat.{ℕ, zero, suc, _*_, _≤_, _<_}
 use native.Mathlib.Decide.{ℕ-discrete}
 use native.Mathlib.Omega.{arith}
+use borrow.Author.Tests.{eqb-true}
 use lib.Dec.{T, leb, ltb, eqb, le→leb, lt→ltb}
 use lib.ListN.{length, getD, replicate}
 use Rattle.rules.specs.Base.{if_then_else_, each, eachBack, timesBack}
@@ -20,7 +21,6 @@ use Rattle.rules.specs.Ranges.{Below}
 use Rattle.rules.specs.Paint.{reads, Painted, slotNumber, fiveFrom, sumOf, residueOf, pixelsOf, entryAnswer, entriesAnswer, paintSlot, paintEntries, painting, Lies}
 use Rattle.rules.specs.Demand3.{Agrees}
 use Rattle.rules.proofs.Facts.{eqb-no, eqb-yes, bit-T, T-and}
-use Rattle.rules.proofs.Visits.{eqb-is}
 use Rattle.rules.proofs.Outputs.{In}
 use Rattle.rules.proofs.Pictures.{Paintable, run-paintable}
 use Rattle.rules.proofs.Moments.{run-returned}
@@ -156,7 +156,7 @@ module _ (size n : ℕ) (ls tb os : List ℕ) where
 
       go : (b : Bool) → eqb (at i) 0 ≡ b → (if b then entriesAnswer size n ls tb os i else at i) ≢ 0
           → (entriesAnswer size n ls tb os i ≢ 0 → Found (entriesAnswer size n ls tb os i) i) → Found (if b then entriesAnswer size n ls tb os i else at i) (suc i)
-      go true z x ih = let r = ih x in (r .0, omega (arith, r .1), r .2, λ k l b. later (r .0) k (r .3) (eqb-is (at i) 0 z) l b (ℕ-discrete k i))
+      go true z x ih = let r = ih x in (r .0, omega (arith, r .1), r .2, λ k l b. later (r .0) k (r .3) (eqb-true (at i) 0 z) l b (ℕ-discrete k i))
       go false z x ih = (i, omega arith, refl, λ k l b. absurd (omega arith))
 
 -- ---- a run

@@ -1,14 +1,15 @@
 -- Stage 2 keeps what holds: each visit, each pass, all of them.
 use mathlib.Core.Path.{_≡_, refl, sym, ap, _∙_, subst}
 use mathlib.Core.Logic.{_≢_, _⊎_, inl, inr}
-use mathlib.Core.Bool.{Bool, true, false, not, _||_, true≢false}
+use mathlib.Core.Bool.{Bool, true, false, _||_}
 use mathlib.Core.List.{List, [], _∷_}
 use mathlib.Core.Option.{Option, some}
 use mathlib.Core.Option.{none as off}
 use Prim.Native.Nat.{ℕ, zero, suc, _≤_, _<_}
 use native.Mathlib.Decide.{ℕ-discrete}
 use native.Mathlib.Omega.{arith}
-use lib.Dec.{T, eqb, ltb, leb, eqb→eq, ltb→lt, nltb→le}
+use borrow.Author.Tests.{eqb-false, eqb-true, ltb-false, ltb-true}
+use lib.Dec.{T, eqb, ltb, leb}
 use lib.ListN.{length, getD}
 use Rattle.rules.specs.Base.{if_then_else_, noneAbove, times, insert, least}
 use Rattle.rules.specs.Color.{RunnerConfig, _⊕_, discards}
@@ -26,12 +27,6 @@ use Rattle.rules.proofs.Sound.{Sound, plain-sound, deepened-sound}
 pub times-keep {ℓ κ} : {S : Type ℓ} (I : ℕ → S → Type κ) (f : ℕ → S → S) → ((i : ℕ) (s : S) → I i s → I (suc i) (f i s)) → (s : S) → I 0 s → (n : ℕ) → I n (times n f s)
 times-keep I f step s z zero = z
 times-keep I f step s z (suc n) = step n (times n f s) (times-keep I f step s z n)
-
-pub eqb-ne : (m n : ℕ) → eqb m n ≡ false → m ≢ n
-eqb-ne m n e x = true≢false (sym (eqb-yes m n x) ∙ e)
-
-pub eqb-is : (m n : ℕ) → eqb m n ≡ true → m ≡ n
-eqb-is m n e = eqb→eq m n (subst T (sym e) tt)
 
 -- ---- every entry of a list
 
@@ -74,7 +69,7 @@ module _ (o : RunnerConfig) (w h : ℕ) where
       pick : (b : Bool) → eqb (label s i) 0 ≡ b → (c : Bool) → eqb (label s i) own ≡ c → All (Near s own) (if b || c then found else insert (label s i) found)
       pick true e c d = a
       pick false e true d = a
-      pick false e false d = insert-all (Near s own) (label s i) found (eqb-ne (label s i) 0 e, eqb-ne (label s i) own d, (i, refl)) a
+      pick false e false d = insert-all (Near s own) (label s i) found (eqb-false (label s i) 0 e, eqb-false (label s i) own d, (i, refl)) a
 
   around4-near : (s : State) (own : ℕ) (ps found : List ℕ) → All (Near s own) found → All (Near s own) (labelsAround w h (s .labels) own ps found)
   unfolding labelsAround
@@ -109,9 +104,9 @@ visit-cases-why o w h a k s P idle out lone plainly deeply = pick (eqb (area (cl
         goes e l (least (rank s k) x xs) (least-all (Near s own) (rank s k) x xs (N .0) (N .1)) (leb (length (x ∷ xs)) (o .hollowNeighbours)) (deepens o w h s k (least (rank s k) x xs)) refl
 
     pick : (b : Bool) → eqb (area (cluster s k)) a ≡ b → (c : Bool) → ltb (o .hierarchical) a ≡ c → P (if b then (if c then put k s else decide o w h a k (neighbours w h s k) s) else s)
-    pick true e true z = out (eqb-is (area (cluster s k)) a e) (ltb→lt (o .hierarchical) a (subst T (sym z) tt))
-    pick true e false z = some-of (eqb-is (area (cluster s k)) a e) (nltb→le (o .hierarchical) a (subst (λ b. T (not b)) (sym z) tt)) (neighbours w h s k) refl (neighbours-near o w h s k)
-    pick false e c z = idle (eqb-ne (area (cluster s k)) a e)
+    pick true e true z = out (eqb-true (area (cluster s k)) a e) (ltb-true (o .hierarchical) a z)
+    pick true e false z = some-of (eqb-true (area (cluster s k)) a e) (ltb-false (o .hierarchical) a z) (neighbours w h s k) refl (neighbours-near o w h s k)
+    pick false e c z = idle (eqb-false (area (cluster s k)) a e)
 
 -- what a visit can do: nothing; put out (area above hierarchical); what a cluster with no neighbour does; merge, plainly or deepening
 pub visit-cases {ℓ} : (o : RunnerConfig) (w h a k : ℕ) (s : State) (P : State → Type ℓ)
@@ -126,11 +121,7 @@ visit-cases o w h a k s P idle out lone plainly deeply = visit-cases-why o w h a
 -- and what a cluster with no neighbour does: put out, or nothing
 pub isolated-cases {ℓ} : (o : RunnerConfig) (w h a k : ℕ) (s : State) (P : State → Type ℓ) → P (put k s) → P s → P (isolated o a k s)
 unfolding isolated
-isolated-cases o w h a k s P x y = pick (noneAbove a (s .listed) || discards o)
-  where
-    pick : (b : Bool) → P (if b then put k s else s)
-    pick true = x
-    pick false = y
+isolated-cases o w h a k s P x y = elim (noneAbove a (s .listed) || discards o) as (λ b. P (if b then put k s else s)) [ true ↦ x | false ↦ y ]
 
 occurs-first : (xs : List ℕ) → 0 < length xs → occurs (getD xs 0 0) xs ≢ 0
 occurs-first [] z e = absurd (omega arith)

@@ -6,6 +6,7 @@ use mathlib.Core.List.{List}
 use Prim.Native.Nat.{ℕ, zero, suc, _*_, _≤_, _<_}
 use native.Mathlib.Decide.{ℕ-discrete}
 use native.Mathlib.Omega.{arith}
+use borrow.Author.Tests.{eqb-true}
 use lib.Dec.{T, eqb}
 use Rattle.rules.specs.Base.{if_then_else_}
 use Rattle.rules.specs.Color.{RunnerConfig, isDiscard, keyingOn, equalColor, pixel}
@@ -19,7 +20,7 @@ use Rattle.rules.specs.Claim.{bit, occurs, tally, countOf, Stands, Holds
 use Rattle.rules.proofs.Facts.{countOf-lt, countOf-some, T-both, both-true, is-true}
 use Rattle.rules.proofs.Forest.{Inside, residue-in, residue-out}
 use Rattle.rules.proofs.Sound.{Sound}
-use Rattle.rules.proofs.Visits.{Going, passes-going, eqb-is}
+use Rattle.rules.proofs.Visits.{Going, passes-going}
 use Rattle.rules.proofs.Basic.{plain-down, plain-to, plain-up, deepened-down, deepened-up}
 use Rattle.rules.proofs.Early.{Early, taken-early, fresh-early, prepareStage2-going}
 use Rattle.rules.proofs.Outputs.{area-le}
@@ -108,7 +109,7 @@ stage2-passes o w h image = pick (eqb (o .hierarchical) 0) refl
     s = prepareStage2 (stage1 o w h image)
 
     pick : (b : Bool) → eqb (o .hierarchical) 0 ≡ b → (if b then outputAll s else passes o w h (w * h) s) ≡ passes o w h (w * h) s
-    pick true e = outputAll-passes o w h (eqb-is (o .hierarchical) 0 e) s (w * h) (area-le (prepareStage2-going (w * h) (stage1 o w h image) (early o w h image) .sound .basic))
+    pick true e = outputAll-passes o w h (eqb-true (o .hierarchical) 0 e) s (w * h) (area-le (prepareStage2-going (w * h) (stage1 o w h image) (early o w h image) .sound .basic))
     pick false e = refl
 
 pub going : (o : RunnerConfig) (w h : ℕ) (image : List ℕ) → Going image (w * h) (suc (w * h)) 0 (stage2 o w h (stage1 o w h image))

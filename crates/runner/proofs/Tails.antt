@@ -1,7 +1,7 @@
 -- What the links become when the list of a cluster gets a tail: by a pixel that is added to it, or by a merge.
 use mathlib.Core.Path.{_≡_, refl, sym, ap, _∙_, subst}
 use mathlib.Core.Logic.{_≢_, by-cases}
-use mathlib.Core.Bool.{Bool, true, false}
+use mathlib.Core.Bool.{true, false}
 use mathlib.Core.List.{List, [], _∷_, _++_, append-nil}
 use Prim.Native.Nat.{ℕ, zero, suc, _-_, _<_}
 use native.Mathlib.Decide.{ℕ-discrete}
@@ -37,11 +37,7 @@ linkAfter-empty ls tail first = refl
 -- nothing to go on with
 pub linkAfter-none : (ls : List ℕ) (n tail : ℕ) → linkAfter ls n tail 0 ≡ ls
 unfolding linkAfter
-linkAfter-none ls n tail = pick (eqb n 0)
-  where
-    pick : (a : Bool) → (if a then ls else ls) ≡ ls
-    pick true = refl
-    pick false = refl
+linkAfter-none ls n tail = elim (eqb n 0) as (λ a. (if a then ls else ls) ≡ ls) [ true ↦ refl | false ↦ refl ]
 
 linkAfter-joins : (ls : List ℕ) (n tail first : ℕ) → linkAfter ls (suc n) tail (suc first) ≡ set ls (tail - 1) (suc first)
 unfolding linkAfter

@@ -3,12 +3,12 @@ use mathlib.Core.Bool.{_||_}
 use Prim.Native.Nat.{ℕ, _+_, _*_}
 use native.Mathlib.Omega.{arith}
 use borrow.Author.Needs.{needs}
-use borrow.Author.Tests.{ne-eqb, eqb-true, not-false}
+use borrow.Author.Tests.{ne-eqb, eqb-true, not-false, ltb-false}
 use lib.Dec.{eqb, ltb}
 use lib.ListN.{length}
 use Rattle.rules.specs.Refusals.{limit, tableLength, outputsLength, badCounts, notFourEach, paintAnswer}
 use Rattle.rules.specs.Calls.{paintCall}
-use Rattle.rules.proofs.Accepted.{passed, neither, not-below, good-size}
+use Rattle.rules.proofs.Accepted.{passed, neither, good-size}
 use Rattle.container.specs.Lengths.{CanPaint}
 use Rattle.container.proofs.to_color_image.Statement.{statement}
 use Rattle.container.proofs.to_color_image.Tie as tie
@@ -27,10 +27,10 @@ can-paint w h links table outputs picture n m e =
     let k = neither (ltb (w * h + 1) n) (ltb (2 * (w * h)) m) (l3 .1) in
     record {
       some = good-size w h (c2 .0) (c3 .0) .some;
-      small = not-below limit (w * h) (c3 .0);
-      links-fit = not-below links (w * h) (l1 .0);
-      table-fits = omega (arith, not-below table (tableLength (w * h)) (l1 .1), not-below (w * h + 1) n (k .0));
-      outputs-fit = omega (arith, not-below outputs (outputsLength (w * h)) (l2 .1), not-below (2 * (w * h)) m (k .1));
+      small = ltb-false limit (w * h) (c3 .0);
+      links-fit = ltb-false links (w * h) (l1 .0);
+      table-fits = omega (arith, ltb-false table (tableLength (w * h)) (l1 .1), ltb-false (w * h + 1) n (k .0));
+      outputs-fit = omega (arith, ltb-false outputs (outputsLength (w * h)) (l2 .1), ltb-false (2 * (w * h)) m (k .1));
       picture-fits = eqb-true _ _ (not-false _ (c6 .0));
     }
 
