@@ -49,6 +49,4 @@ returns-2 c = rw (accepted (c .before .before .before .before)) (c .before .befo
 pub to-color-image-spec : {M : Type 1} → statement M
 to-color-image-spec =
     tie.close
-    (tie.spec
-    (search needs) returns (λ c. omega (arith, can-paint _ _ _ _ _ _ _ _ (accepted c) .small)) (λ c κs. can-paint _ _ _ _ _ _ _ _ (accepted (c .before)))
-    (search needs) returns-2)
+    (tie.spec (search needs) returns (λ c. omega (arith, can-paint _ _ _ _ _ _ _ _ (accepted c) .small)) (λ c κs. can-paint _ _ _ _ _ _ _ _ (accepted (c .before))) (search needs) returns-2)

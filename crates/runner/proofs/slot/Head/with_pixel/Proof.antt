@@ -31,11 +31,4 @@ returns c = λ k e.
 pub with-pixel-spec : {M : Type 1} → statement M
 with-pixel-spec =
     tie.close
-    (tie.spec
-    (search needs)
-    (search needs)
-    (search needs)
-    (search needs)
-    (search needs)
-    (λ c κs. rw (c .one .ensures) (c .before .before .before .before .pre .4))
-    returns)
+    (tie.spec (search needs) (search needs) (search needs) (search needs) (search needs) (λ c κs. rw (c .one .ensures) (c .before .before .before .before .pre .4)) returns)
