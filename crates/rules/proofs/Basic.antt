@@ -32,18 +32,18 @@ deepened-t h f t = fun-ext λ q. rw (eqb-yes t t refl)
 pub deepened-o : (h : Held) (f t j : ℕ) → j ≢ t → enter (deepened f t) h j ≡ h j
 deepened-o h f t j m = fun-ext λ q. rw (eqb-no j t m)
 
+-- what t has after a merge of f into it was t's or f's
+split-t : (g : Held) (f t j q : ℕ) → j ≡ t → T (g t q || g f q) → ((j ≡ t) × T (g f q)) ⊎ T (g j q)
+split-t g f t j q e x = elim (T-or (g t q) (g f q) x) [ inl y ↦ inr (subst (λ m. T (g m q)) (sym e) y) | inr y ↦ inl (e, y) ]
+
 -- what a plain merge leaves, read both ways
 module _ (g : Held) (f t : ℕ) (n : f ≢ t) where
   pub plain-down : (j q : ℕ) → T (enter (plain f t) g j q) → (j ≢ f) × (((j ≡ t) × T (g f q)) ⊎ T (g j q))
   plain-down j q x = pick (ℕ-discrete j f) (ℕ-discrete j t)
     where
-      side : (j ≡ t) → T (g t q) ⊎ T (g f q) → ((j ≡ t) × T (g f q)) ⊎ T (g j q)
-      side e (inl y) = inr (subst (λ m. T (g m q)) (sym e) y)
-      side e (inr y) = inl (e, y)
-
       pick : Dec (j ≡ f) → Dec (j ≡ t) → (j ≢ f) × (((j ≡ t) × T (g f q)) ⊎ T (g j q))
       pick (yes e) d = absurd (subst (λ u. T (u q)) (plain-f g f t n) (subst (λ m. T (enter (plain f t) g m q)) e x))
-      pick (no d) (yes e) = (d, side e (T-or (g t q) (g f q) (subst (λ u. T (u q)) (plain-t g f t) (subst (λ m. T (enter (plain f t) g m q)) e x))))
+      pick (no d) (yes e) = (d, split-t g f t j q e (subst (λ u. T (u q)) (plain-t g f t) (subst (λ m. T (enter (plain f t) g m q)) e x)))
       pick (no d) (no e) = (d, inr (subst (λ u. T (u q)) (plain-o g f t j d e) x))
 
   pub plain-to : (q : ℕ) → T (g f q) → T (enter (plain f t) g t q)
@@ -58,12 +58,8 @@ module _ (g : Held) (f t : ℕ) (n : f ≢ t) where
 module _ (g : Held) (f t : ℕ) where
   pub deepened-down : (j q : ℕ) → T (enter (deepened f t) g j q) → ((j ≡ t) × T (g f q)) ⊎ T (g j q)
   deepened-down j q x = by-cases (ℕ-discrete j t)
-      (λ e. side e (T-or (g t q) (g f q) (subst (λ u. T (u q)) (deepened-t g f t) (subst (λ m. T (enter (deepened f t) g m q)) e x))))
+      (λ e. split-t g f t j q e (subst (λ u. T (u q)) (deepened-t g f t) (subst (λ m. T (enter (deepened f t) g m q)) e x)))
       (λ e. inr (subst (λ u. T (u q)) (deepened-o g f t j e) x))
-    where
-      side : (j ≡ t) → T (g t q) ⊎ T (g f q) → ((j ≡ t) × T (g f q)) ⊎ T (g j q)
-      side e (inl y) = inr (subst (λ m. T (g m q)) (sym e) y)
-      side e (inr y) = inl (e, y)
 
   pub deepened-to : (q : ℕ) → T (g f q) → T (enter (deepened f t) g t q)
   deepened-to q x = subst (λ u. T (u q)) (sym (deepened-t g f t)) (T-or-r (g t q) (g f q) x)
@@ -173,6 +169,10 @@ three f t P a b c k = pick (ℕ-discrete k f) (ℕ-discrete k t)
     pick (yes e) d = subst P (sym e) a
     pick (no d) (yes e) = subst P (sym e) b
     pick (no d) (no e) = c k d e
+
+-- what holds of every cluster, and of what becomes of f and t, holds after a merge
+pub moved-every : {f t : ℕ} {s s′ : State} {c d : Cluster} → Moved f t s s′ → cluster s′ f ≡ c → cluster s′ t ≡ d → (P : Cluster → Type 0) → P c → P d → ((k : ℕ) → P (cluster s k)) → (k : ℕ) → P (cluster s′ k)
+moved-every {f} {t} {s′ = s′} M from to P a b old = three f t (λ k. P (cluster s′ k)) (subst P (sym from) a) (subst P (sym to) b) (λ k m n. subst P (sym (M .other k m n)) (old k))
 
 -- what the ledger says of a list
 module _ {image : List ℕ} {size : ℕ} {h : Held} {s : State} (S : Basic image size h s) (k p : ℕ) where

@@ -1,5 +1,5 @@
 -- "No larger area is listed" is "no slot has a larger pixel count".
-use mathlib.Core.Path.{_≡_, refl, sym, ap, _∙_, subst}
+use mathlib.Core.Path.{_≡_, refl, ap, _∙_, subst}
 use mathlib.Core.Logic.{_⊎_, inl, inr}
 use mathlib.Core.Bool.{Bool, true, false}
 use mathlib.Core.List.{List, [], _∷_}
@@ -10,7 +10,7 @@ use lib.Dec.{T, eqb, ltb, leb, leb→le, le→leb}
 use lib.ListN.{length, getD, length-append}
 use Rattle.rules.specs.Base.{if_then_else_, noneAbove, insert}
 use Rattle.rules.specs.Color.{RunnerConfig}
-use Rattle.rules.specs.State.{State, Cluster, newCluster, cluster, label, area, emptied, withCluster, mergedTo, deeper, withResidue, put, merge, deepen}
+use Rattle.rules.specs.State.{State, Cluster, newCluster, cluster, label, area, emptied, mergedTo, withResidue, put, merge, deepen}
 use Rattle.rules.specs.Stage2.{areasOf, prepareStage2, visit}
 use Rattle.rules.specs.Run.{stage1}
 use Rattle.rules.specs.Ledger.{ledger}
@@ -22,7 +22,7 @@ use Rattle.rules.proofs.Visits.{Going, Near, visit-cases, isolated-case
 use Rattle.rules.proofs.Early.{settled}
 use Rattle.rules.proofs.Whole.{early}
 use Rattle.rules.proofs.Outputs.{In, area-countOf}
-use Rattle.rules.proofs.Listed.{Listed, put-listed, merge-listed, deepen-listed, prepareStage2-listed}
+use Rattle.rules.proofs.Listed.{Listed, put-listed, merge-listed, deepen-listed, prepareStage2-listed, merge-lists, deepen-lists}
 use Rattle.rules.proofs.Order.{Turning, turns-keep, start-turning}
 
 pub insert-from : (x a : ℕ) (xs : List ℕ) → In x (insert a xs) → (x ≡ a) ⊎ In x xs
@@ -128,19 +128,10 @@ prepareStage2-topped s = record { tops = λ x i. go x (areas-from x (s .clusters
 module _ {image : List ℕ} {size : ℕ} where
   -- both are kept by every visit
   pub visit-listed : (o : RunnerConfig) (w h a k : ℕ) (s : State) → Going image size a k s → 0 < a → area (cluster s k) ≡ a → Listed s × Topped s → Listed (visit o w h a k s) × Topped (visit o w h a k s)
-  unfolding merge deepen emptied mergedTo withCluster withResidue deeper
   visit-listed o w h a k s G pos e R =
       visit-cases o w h a k s (λ u. Listed u × Topped u) (λ x. R) (λ z l. out) (λ z l n. isolated-cases o w h a k s (λ u. Listed u × Topped u) out R)
-      (λ z l t N. (
-        merge-listed a k s G (R .0) pos e t N,
-        moved-topped k t s (merge k t s) (merge-changes a k s G pos e t N) (R .1)
-            (ap (λ x. insert x (s .listed)) (sym (ap length (merge-changes a k s G pos e t N .t-pixels)))),
-      ))
-      (λ z l t N b. (
-        deepen-listed a k s G (R .0) pos e t N b,
-        moved-topped k t s (deepen b k t s) (deepen-changes a k s G pos e t N b) (R .1)
-            (ap (λ x. insert x (s .listed)) (sym (ap length (deepen-changes a k s G pos e t N b .t-pixels)))),
-      ))
+      (λ z l t N. (merge-listed a k s G (R .0) pos e t N, moved-topped k t s (merge k t s) (merge-changes a k s G pos e t N) (R .1) (merge-lists a k s G pos e t N)))
+      (λ z l t N b. (deepen-listed a k s G (R .0) pos e t N b, moved-topped k t s (deepen b k t s) (deepen-changes a k s G pos e t N b) (R .1) (deepen-lists a k s G pos e t N b)))
     where
       out : Listed (put k s) × Topped (put k s)
       out = (put-listed k s (R .0), put-topped k s (R .1))

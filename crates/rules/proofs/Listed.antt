@@ -2,7 +2,7 @@
 use mathlib.Core.Path.{_≡_, refl, sym, ap, _∙_, subst}
 use mathlib.Core.Logic.{_≢_, _⊎_, inl, inr}
 use mathlib.Core.Bool.{Bool, true, false}
-use mathlib.Core.List.{List, [], _∷_, _++_}
+use mathlib.Core.List.{List, [], _∷_}
 use Prim.Native.Nat.{ℕ, zero, suc, _<_}
 use native.Mathlib.Omega.{arith}
 use borrow.Author.Tests.{eqb-true}
@@ -10,9 +10,9 @@ use lib.Dec.{T, eqb, ltb}
 use lib.ListN.{length, getD}
 use Rattle.rules.specs.Base.{if_then_else_, times, insert}
 use Rattle.rules.specs.Color.{RunnerConfig}
-use Rattle.rules.specs.State.{State, Cluster, newCluster, cluster, label, area, withCluster, mergedTo, deeper, withResidue, put, merge, deepen, plain, deepened}
+use Rattle.rules.specs.State.{State, Cluster, newCluster, cluster, label, area, withCluster, mergedTo, deeper, withResidue, put, merge, deepen}
 use Rattle.rules.specs.Stage2.{areasOf, prepareStage2, visit, pass, passes}
-use Rattle.rules.specs.Ledger.{Held, enter, ledger}
+use Rattle.rules.specs.Ledger.{ledger}
 use Rattle.rules.specs.Claim.{Stands}
 use Rattle.rules.proofs.Facts.{eqb-no}
 use Rattle.rules.proofs.Basic.{Moved, three, plain-down, plain-o, deepened-o}
@@ -66,50 +66,37 @@ unfolding put
 put-listed k s L = record { areas = L .areas }
 
 module _ {image : List ℕ} {size : ℕ} where
-  module _ (a k : ℕ) (s : State) (G : Going image size a k s) (L : Listed s) (pos : 0 < a) (e : area (cluster s k) ≡ a) (t : ℕ) (N : Near s (label s (getD (cluster s k .pixels) 0 0)) t) where
-    pub merge-listed : Listed (merge k t s)
+  -- the new area of t is listed
+  module _ (a k : ℕ) (s : State) (G : Going image size a k s) (pos : 0 < a) (e : area (cluster s k) ≡ a) (t : ℕ) (N : Near s (label s (getD (cluster s k .pixels) 0 0)) t) where
+    pub merge-lists : merge k t s .listed ≡ insert (area (cluster (merge k t s) t)) (s .listed)
     unfolding merge withCluster withResidue
-    merge-listed = record {
-      areas = three k t (λ j. Stands h′ j → cluster s′ j .mergedInto ≡ 0 → In (area (cluster s′ j)) (insert new (s .listed)))
-          (λ z r. absurd (plain-down (ledger (s .log)) k t (k≢t a k s G pos e t N) k (z .0) (z .1) .0 refl))
-          (λ z r. subst (λ x. In x (insert new (s .listed))) (sym (ap length (M .t-pixels))) (insert-new new (s .listed)))
-          (λ j u v z r. insert-old (area (cluster s′ j)) new (s .listed) (subst (λ c. In (area c) (s .listed)) (sym (M .other j u v))
-          (L .areas j (z .0, subst (λ g. T (g (z .0))) (plain-o (ledger (s .log)) k t j u v) (z .1)) (sym (ap (λ c. c .mergedInto) (M .other j u v)) ∙ r))));
+    merge-lists = ap (λ x. insert x (s .listed)) (sym (ap length (merge-changes a k s G pos e t N .t-pixels)))
+
+    pub deepen-lists : (b : Bool) → deepen b k t s .listed ≡ insert (area (cluster (deepen b k t s) t)) (s .listed)
+    unfolding deepen withCluster deeper
+    deepen-lists b = ap (λ x. insert x (s .listed)) (sym (ap length (deepen-changes a k s G pos e t N b .t-pixels)))
+
+  module _ (a k : ℕ) (s : State) (G : Going image size a k s) (L : Listed s) (pos : 0 < a) (e : area (cluster s k) ≡ a) (t : ℕ) (N : Near s (label s (getD (cluster s k .pixels) 0 0)) t) where
+    -- t's new area is listed, and what else stands is as it was
+    moved-listed : {u : State} → Moved k t s u → u .listed ≡ insert (area (cluster u t)) (s .listed) → (Stands (ledger (u .log)) k → cluster u k .mergedInto ≡ 0 → ⊥)
+        → ((j : ℕ) → j ≢ k → j ≢ t → Stands (ledger (u .log)) j → Stands (ledger (s .log)) j) → Listed u
+    moved-listed {u} M new gone old = record {
+      areas = three k t (λ j. Stands (ledger (u .log)) j → cluster u j .mergedInto ≡ 0 → In (area (cluster u j)) (u .listed))
+          (λ z r. absurd (gone z r))
+          (λ z r. subst (In (area (cluster u t))) (sym new) (insert-new (area (cluster u t)) (s .listed)))
+          (λ j m n z r. subst (In (area (cluster u j))) (sym new) (insert-old (area (cluster u j)) (area (cluster u t)) (s .listed)
+          (subst (λ c. In (area c) (s .listed)) (sym (M .other j m n)) (L .areas j (old j m n z) (sym (ap (λ c. c .mergedInto) (M .other j m n)) ∙ r)))));
     }
-      where
-        s′ : State
-        s′ = merge k t s
 
-        h′ : Held
-        h′ = enter (plain k t) (ledger (s .log))
-
-        new : ℕ
-        new = length (cluster s t .pixels ++ cluster s k .pixels)
-
-        M : Moved k t s (merge k t s)
-        M = merge-changes a k s G pos e t N
+    pub merge-listed : Listed (merge k t s)
+    unfolding merge
+    merge-listed = moved-listed (merge-changes a k s G pos e t N) (merge-lists a k s G pos e t N) (λ z r. plain-down (ledger (s .log)) k t (k≢t a k s G pos e t N) k (z .0) (z .1) .0 refl)
+        (λ j m n z. (z .0, subst (λ g. T (g (z .0))) (plain-o (ledger (s .log)) k t j m n) (z .1)))
 
     pub deepen-listed : (hollow : Bool) → Listed (deepen hollow k t s)
-    unfolding deepen withCluster deeper mergedTo
-    deepen-listed hollow = record {
-      areas = three k t (λ j. Stands h′ j → cluster s′ j .mergedInto ≡ 0 → In (area (cluster s′ j)) (insert new (s .listed)))
-          (λ z r. absurd (N .0 (sym (ap (λ c. c .mergedInto) (deepen-from a k s G pos e t N hollow)) ∙ r)))
-          (λ z r. subst (λ x. In x (insert new (s .listed))) (sym (ap length (M .t-pixels))) (insert-new new (s .listed)))
-          (λ j u v z r. insert-old (area (cluster s′ j)) new (s .listed) (subst (λ c. In (area c) (s .listed)) (sym (M .other j u v))
-          (L .areas j (z .0, subst (λ g. T (g (z .0))) (deepened-o (ledger (s .log)) k t j v) (z .1)) (sym (ap (λ c. c .mergedInto) (M .other j u v)) ∙ r))));
-    }
-      where
-        s′ : State
-        s′ = deepen hollow k t s
-
-        h′ : Held
-        h′ = enter (deepened k t) (ledger (s .log))
-
-        new : ℕ
-        new = length (cluster s t .pixels ++ cluster s k .pixels)
-
-        M : Moved k t s (deepen hollow k t s)
-        M = deepen-changes a k s G pos e t N hollow
+    unfolding deepen mergedTo
+    deepen-listed hollow = moved-listed (deepen-changes a k s G pos e t N hollow) (deepen-lists a k s G pos e t N hollow) (λ z r. N .0 (sym (ap (λ c. c .mergedInto) (deepen-from a k s G pos e t N hollow)) ∙ r))
+        (λ j m n z. (z .0, subst (λ g. T (g (z .0))) (deepened-o (ledger (s .log)) k t j n) (z .1)))
 
   module _ (o : RunnerConfig) (w h : ℕ) where
     pub pass-listed : (a : ℕ) (s : State) → Going image size (suc a) 0 s × Listed s → Going image size (suc (suc a)) 0 (pass o w h (suc a) s) × Listed (pass o w h (suc a) s)

@@ -10,7 +10,7 @@ use lib.Dec.{T, eqb, ltb, ltb→lt, eqb→eq}
 use lib.ListN.{length, getD, length-append, length-map}
 use Rattle.rules.specs.Base.{if_then_else_, keep}
 use Rattle.rules.specs.Color.{RunnerConfig, ColorSum, one, _⊕_, pixel, keyingOn}
-use Rattle.rules.specs.State.{State, cluster, label, area, emptied, withCluster, mergedTo, deeper, withResidue, put, merge, deepen}
+use Rattle.rules.specs.State.{State, Cluster, cluster, label, area, emptied, withCluster, mergedTo, deeper, withResidue, put, merge, deepen}
 use Rattle.rules.specs.Stage2.{visit, prepareStage2}
 use Rattle.rules.specs.Run.{stage1, stage2, run, dropEmpty}
 use Rattle.rules.specs.Layout.{after, firstOf, link}
@@ -23,7 +23,7 @@ use Rattle.rules.specs.Ranges.{Fits, OnImage, Below, Ranged}
 use Rattle.rules.specs.Demand3.{Discarded, Agrees}
 use Rattle.rules.proofs.Owned.{owned}
 use Rattle.rules.proofs.Facts.{is-false, standing, bit-T, eqb-yes, countOf-le, tally-or, tally-one, countOf-bound}
-use Rattle.rules.proofs.Basic.{Basic, Moved, three, plain-to, plain-up, some-held}
+use Rattle.rules.proofs.Basic.{Basic, Moved, plain-to, plain-up, some-held, moved-every}
 use Rattle.rules.proofs.Sound.{Sound}
 use Rattle.rules.proofs.Visits.{Going, Near, visit-cases, isolated-cases, stands, k≢t, t-slot, target-stands, merge-going, merge-changes, deepen-changes, merge-from, deepen-from, merge-to, deepen-to}
 use Rattle.rules.proofs.Early.{Early, settled, flats-apart}
@@ -115,72 +115,54 @@ module _ (image : List ℕ) (bytes : (i : ℕ) → getD image i 0 ≤ 255) where
         unfolding merge withResidue withCluster emptied
         merge-inner = record {
           table = M .table ∙ I .table;
-          rects = three k t (λ j. OnImage w h (cluster u j .rect)) (subst (λ c. OnImage w h (c .rect)) (sym from) (no-rect w h))
-              (subst (λ c. OnImage w h (c .rect)) (sym to) (both-rects w h (cluster s t .rect) (cluster s k .rect) (I .rects t) (I .rects k)))
-              (λ j m l. subst (λ c. OnImage w h (c .rect)) (sym (M .other j m l)) (I .rects j));
-          residues = three k t (λ j. Fits (w * h) (cluster u j .residue)) (subst (λ c. Fits (w * h) (c .residue)) (sym from) (I .residues k))
-              (residue-fits (merge-going a k s G pos e t N .sound) t (getD (cluster s k .pixels) 0 0, plain-to (ledger (s .log)) k t (k≢t a k s G pos e t N) (getD (cluster s k .pixels) 0 0) (stands a k s G pos e)))
-              (λ j m l. subst (λ c. Fits (w * h) (c .residue)) (sym (M .other j m l)) (I .residues j));
-          into = three k t (λ j. cluster u j .mergedInto < n) (subst (λ c. c .mergedInto < n) (sym from) (I .into k)) (subst (λ c. c .mergedInto < n) (sym to) (I .into t))
-              (λ j m l. subst (λ c. c .mergedInto < n) (sym (M .other j m l)) (I .into j));
-          depths = three k t (λ j. cluster u j .depth + countOf (rooted u) n ≤ w * h) (omega (arith, ap (λ c. c .depth) from, I .depths k, less)) (omega (arith, ap (λ c. c .depth) to, I .depths t, less))
-              (λ j m l. omega (arith, ap (λ c. c .depth) (M .other j m l), I .depths j, less));
-          holes = three k t (λ j. length (cluster u j .holes) ≤ cluster u j .depth) (subst (λ c. length (c .holes) ≤ c .depth) (sym from) (I .holes k)) (subst (λ c. length (c .holes) ≤ c .depth) (sym to) (I .holes t))
-              (λ j m l. subst (λ c. length (c .holes) ≤ c .depth) (sym (M .other j m l)) (I .holes j));
-          children = three k t (λ j. Below n (cluster u j .holes)) (subst (λ c. Below n (c .holes)) (sym from) (I .children k)) (subst (λ c. Below n (c .holes)) (sym to) (I .children t))
-              (λ j m l. subst (λ c. Below n (c .holes)) (sym (M .other j m l)) (I .children j));
+          rects = every (λ c. OnImage w h (c .rect)) (no-rect w h) (both-rects w h (cluster s t .rect) (cluster s k .rect) (I .rects t) (I .rects k)) (I .rects);
+          residues = every (λ c. Fits (w * h) (c .residue)) (I .residues k)
+              (subst (λ c. Fits (w * h) (c .residue)) (merge-to a k s G pos e t N) (residue-fits (merge-going a k s G pos e t N .sound) t (first, plain-to (ledger (s .log)) k t (k≢t a k s G pos e t N) first (stands a k s G pos e))))
+              (I .residues);
+          into = every (λ c. c .mergedInto < n) (I .into k) (I .into t) (I .into);
+          depths = every (λ c. c .depth + countOf (rooted (merge k t s)) n ≤ w * h) (fewer k) (fewer t) fewer;
+          holes = every (λ c. length (c .holes) ≤ c .depth) (I .holes k) (I .holes t) (I .holes);
+          children = every (λ c. Below n (c .holes)) (I .children k) (I .children t) (I .children);
           outputs = I .outputs;
         }
           where
-            u : State
-            u = merge k t s
+            first : ℕ
+            first = getD (cluster s k .pixels) 0 0
 
             M : Moved k t s (merge k t s)
             M = merge-changes a k s G pos e t N
 
-            from : cluster (merge k t s) k ≡ emptied (cluster s k)
-            from = merge-from a k s G pos e t N
+            every : (P : Cluster → Type 0) → P (emptied (cluster s k)) → P (withResidue (cluster s t .residue ⊕ cluster s k .residue) (withCluster (cluster s k) (cluster s t)))
+                → ((j : ℕ) → P (cluster s j)) → (j : ℕ) → P (cluster (merge k t s) j)
+            every = moved-every M (merge-from a k s G pos e t N) (merge-to a k s G pos e t N)
 
-            to : cluster (merge k t s) t ≡ withResidue (cluster s t .residue ⊕ cluster s k .residue) (withCluster (cluster s k) (cluster s t))
-            to = merge-to a k s G pos e t N
-
-            less : countOf (rooted (merge k t s)) n < countOf (rooted s) n
-            less = merge-fewer a k s G B pos e fits t N .0
+            fewer : (j : ℕ) → cluster s j .depth + countOf (rooted (merge k t s)) n ≤ w * h
+            fewer j = omega (arith, I .depths j, merge-fewer a k s G B pos e fits t N .0)
 
         deepen-inner : (b : Bool) → Inner (deepen b k t s)
         unfolding deepen mergedTo withCluster deeper
         deepen-inner b = record {
           table = M .table ∙ I .table;
-          rects = three k t (λ j. OnImage w h (cluster u j .rect)) (subst (λ c. OnImage w h (c .rect)) (sym from) (I .rects k))
-              (subst (λ c. OnImage w h (c .rect)) (sym to) (both-rects w h (cluster s t .rect) (cluster s k .rect) (I .rects t) (I .rects k)))
-              (λ j m l. subst (λ c. OnImage w h (c .rect)) (sym (M .other j m l)) (I .rects j));
-          residues = three k t (λ j. Fits (w * h) (cluster u j .residue)) (subst (λ c. Fits (w * h) (c .residue)) (sym from) (I .residues k)) (subst (λ c. Fits (w * h) (c .residue)) (sym to) (I .residues t))
-              (λ j m l. subst (λ c. Fits (w * h) (c .residue)) (sym (M .other j m l)) (I .residues j));
-          into = three k t (λ j. cluster u j .mergedInto < n) (subst (λ c. c .mergedInto < n) (sym from) (subst (λ m. t < m) (I .table) (t-slot a k s G pos e t N))) (subst (λ c. c .mergedInto < n) (sym to) (I .into t))
-              (λ j m l. subst (λ c. c .mergedInto < n) (sym (M .other j m l)) (I .into j));
-          depths = three k t (λ j. cluster u j .depth + countOf (rooted u) n ≤ w * h) (omega (arith, ap (λ c. c .depth) from, I .depths k, less)) (omega (arith, ap (λ c. c .depth) to, I .depths t, less))
-              (λ j m l. omega (arith, ap (λ c. c .depth) (M .other j m l), I .depths j, less));
-          holes = three k t (λ j. length (cluster u j .holes) ≤ cluster u j .depth) (subst (λ c. length (c .holes) ≤ c .depth) (sym from) (I .holes k)) (subst (λ c. length (c .holes) ≤ c .depth) (sym to) (more b))
-              (λ j m l. subst (λ c. length (c .holes) ≤ c .depth) (sym (M .other j m l)) (I .holes j));
-          children = three k t (λ j. Below n (cluster u j .holes)) (subst (λ c. Below n (c .holes)) (sym from) (I .children k)) (subst (λ c. Below n (c .holes)) (sym to) (one b))
-              (λ j m l. subst (λ c. Below n (c .holes)) (sym (M .other j m l)) (I .children j));
+          rects = every (λ c. OnImage w h (c .rect)) (I .rects k) (both-rects w h (cluster s t .rect) (cluster s k .rect) (I .rects t) (I .rects k)) (I .rects);
+          residues = every (λ c. Fits (w * h) (c .residue)) (I .residues k) (I .residues t) (I .residues);
+          into = every (λ c. c .mergedInto < n) (subst (λ m. t < m) (I .table) (t-slot a k s G pos e t N)) (I .into t) (I .into);
+          depths = every (λ c. c .depth + countOf (rooted (deepen b k t s)) n ≤ w * h) (omega (arith, fewer k)) (omega (arith, I .depths t, less)) (λ j. omega (arith, fewer j));
+          holes = every (λ c. length (c .holes) ≤ c .depth) (I .holes k) (more b) (I .holes);
+          children = every (λ c. Below n (c .holes)) (I .children k) (one b) (I .children);
           outputs = below-snoc n k (s .outputs) (I .outputs) fits;
         }
           where
-            u : State
-            u = deepen b k t s
-
             M : Moved k t s (deepen b k t s)
             M = deepen-changes a k s G pos e t N b
 
-            from : cluster (deepen b k t s) k ≡ mergedTo t (cluster s k)
-            from = deepen-from a k s G pos e t N b
-
-            to : cluster (deepen b k t s) t ≡ deeper b k (withCluster (cluster s k) (cluster s t))
-            to = deepen-to a k s G pos e t N b
+            every : (P : Cluster → Type 0) → P (mergedTo t (cluster s k)) → P (deeper b k (withCluster (cluster s k) (cluster s t))) → ((j : ℕ) → P (cluster s j)) → (j : ℕ) → P (cluster (deepen b k t s) j)
+            every = moved-every M (deepen-from a k s G pos e t N b) (deepen-to a k s G pos e t N b)
 
             less : countOf (rooted (deepen b k t s)) n < countOf (rooted s) n
             less = deepen-fewer a k s G B pos e fits t N b .0
+
+            fewer : (j : ℕ) → cluster s j .depth + countOf (rooted (deepen b k t s)) n ≤ w * h
+            fewer j = omega (arith, I .depths j, less)
 
             more : (y : Bool) → length (if y then cluster s t .holes ++ (k ∷ []) else cluster s t .holes) ≤ cluster s t .depth + 1
             more true = omega (arith, length-append (cluster s t .holes) (k ∷ []), I .holes t)
