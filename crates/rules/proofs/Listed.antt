@@ -122,11 +122,7 @@ module _ {image : List ℕ} {size : ℕ} where
     pass-skips a s G L none = all (length (s .clusters))
       where
         from : (k : ℕ) → Going image size (suc a) k s
-        from k = record { sound = G .sound; past = λ j x. side j (G .past j x) }
-          where
-            side : (j : ℕ) → (area (cluster s j) < suc a) ⊎ ((area (cluster s j) ≡ suc a) × (j < 0)) → (area (cluster s j) < suc a) ⊎ ((area (cluster s j) ≡ suc a) × (j < k))
-            side j (inl x) = inl x
-            side j (inr x) = absurd (omega arith)
+        from k = record { sound = G .sound; past = λ j x. elim (G .past j x) [ inl y ↦ inl y | inr y ↦ absurd (omega arith) ] }
 
         differs : (k : ℕ) → area (cluster s k) ≢ suc a
         differs k e = none (subst (λ x. In x (s .listed)) e (L .areas k (getD (cluster s k .pixels) 0 0, stands (suc a) k s (from k) (omega arith) e) (root (suc a) k s (from k) (omega arith) e)))

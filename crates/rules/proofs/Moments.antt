@@ -24,7 +24,7 @@ use Rattle.rules.proofs.Facts.{T-dec, eqb-no, countOf-some, countOf-non
 use Rattle.rules.proofs.Forest.{inside-not}
 use Rattle.rules.proofs.Basic.{Basic}
 use Rattle.rules.proofs.Sound.{Sound}
-use Rattle.rules.proofs.Visits.{Going, visit-going, pass-going, visit-cases, isolated-cases, times-keep, k≢t}
+use Rattle.rules.proofs.Visits.{Going, visit-going, pass-going, visit-cases, isolated-cases, times-keep, k≢t, next-area}
 use Rattle.rules.proofs.Early.{Early, prepareStage2-going}
 use Rattle.rules.proofs.Whole.{early, stage2-passes, rests, agrees, Some, AsBefore, merge-some, deepen-some, put-some}
 use Rattle.rules.proofs.Chains.{Chained, listed, put-chained, merge-chained, deepen-chained, prepareStage2-chained}
@@ -236,13 +236,9 @@ module _ (o : RunnerConfig) (w height : ℕ) (image : List ℕ) (P : State → T
       end : Tracked (suc a) (length (t .now .clusters)) (u .now) (u .moments)
       end = times-keep (λ k v. Tracked (suc a) k (v .now) (v .moments)) (λ k. noted (visit o w height (suc a) k)) (λ k v H. visit-tracked (suc a) k (omega arith) v H) t K (length (t .now .clusters))
 
-      side : (j n : ℕ) {x : ℕ} → (x < suc a) ⊎ ((x ≡ suc a) × (j < n)) → (x < suc (suc a)) ⊎ ((x ≡ suc (suc a)) × (j < 0))
-      side j n (inl y) = inl (omega arith)
-      side j n (inr y) = inl (omega arith)
-
       on : {n : ℕ} → Tracked (suc a) n (u .now) (u .moments) → Tracked (suc (suc a)) 0 (u .now) (u .moments)
-      on {n} H = record {
-        going = record { sound = H .going .sound; past = λ j x. side j n (H .going .past j x) };
+      on H = record {
+        going = next-area (H .going);
         kept = H .kept;
         good = H .good;
         begins = H .begins;

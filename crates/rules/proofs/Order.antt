@@ -22,7 +22,7 @@ use Rattle.rules.specs.Order.{better, pick, target, rekey, Queue, queue,
 use Rattle.rules.specs.Demand3.{Discarded}
 use Rattle.rules.proofs.Facts.{standing, eqb-no, countOf-le, countOf-lt}
 use Rattle.rules.proofs.Basic.{Moved, three}
-use Rattle.rules.proofs.Visits.{Going, later, visit-cases, isolated-cases, visit-going, times-keep, k≢t, t-slot, target-stands, merge-changes, merge-from, deepen-changes, deepen-from}
+use Rattle.rules.proofs.Visits.{Going, later, visit-cases, isolated-cases, visit-going, times-keep, k≢t, t-slot, target-stands, merge-changes, merge-from, deepen-changes, deepen-from, next-area}
 use Rattle.rules.proofs.Early.{Early, prepareStage2-going, settled}
 use Rattle.rules.proofs.Whole.{early, stage2-passes}
 use Rattle.rules.proofs.Outputs.{area-pos, area-le}
@@ -285,7 +285,7 @@ module _ (image : List ℕ) (size : ℕ) (o : RunnerConfig) (w h : ℕ) (q : Que
   pass-reached : (a : ℕ) (s : State) → Reached (suc a) 0 s → Reached (suc (suc a)) 0 (pass o w h (suc a) s)
   unfolding pass
   pass-reached a s R = record {
-    going = Going-on (E .going);
+    going = next-area (E .going);
     count = E .count;
     keys = E .keys;
     there = E .there;
@@ -303,20 +303,13 @@ module _ (image : List ℕ) (size : ℕ) (o : RunnerConfig) (w h : ℕ) (q : Que
       E : Reached (suc a) N u
       E = slots-reached a s R N (omega (arith, R .table))
 
-      side : (j : ℕ) {x : ℕ} → Done (suc a) N x j → Done (suc (suc a)) 0 x j
-      side j (inl y) = inl (omega arith)
-      side j (inr y) = inl (omega arith)
-
-      Going-on : Going image size (suc a) N u → Going image size (suc (suc a)) 0 u
-      Going-on G = record { sound = G .sound; past = λ j x. side j (G .past j x) }
-
       small : (j : ℕ) → 0 < area (cluster u j) → j < N
       small j p = omega (arith, within (suc a) N u (E .keys) (E .queued) (omega arith) j p, E .queued .wide, E .table, R .table)
 
       on : (j x v : ℕ) → (0 < x → j < N) → KeyIs (suc a) N x j v → KeyIs (suc (suc a)) 0 x j v
       on j x v f (inl (inl l, y)) = elim (ℕ-discrete x (suc (suc a))) [ yes z ↦ inl (inr (z, omega arith), y) | no z ↦ inl (inl (omega arith), y) ]
       on j x v f (inl (inr l, y)) = absurd (omega (arith, f (omega (arith, l .0)), l .1))
-      on j x v f (inr (z, y)) = inr (side j z, y)
+      on j x v f (inr (z, y)) = inr (inl (elim z [ inl l ↦ omega arith | inr l ↦ omega arith ]), y)
 
   passes-reached : (s : State) → Reached 1 0 s → (m : ℕ) → Reached (suc m) 0 (passes o w h m s)
   unfolding passes

@@ -136,11 +136,7 @@ pub record Going (image : List ℕ) (size : ℕ) (a k : ℕ) (s : State) : Type 
 
 module _ {image : List ℕ} {size : ℕ} where
   pub later : {a k : ℕ} {s : State} → Going image size a k s → Going image size a (suc k) s
-  later {a} {k} {s} G = record { sound = G .sound; past = λ j x. pick j (G .past j x) }
-    where
-      pick : (j : ℕ) → (area (cluster s j) < a) ⊎ ((area (cluster s j) ≡ a) × (j < k)) → (area (cluster s j) < a) ⊎ ((area (cluster s j) ≡ a) × (j < suc k))
-      pick j (inl x) = inl x
-      pick j (inr x) = inr (x .0, omega arith)
+  later {a} {k} {s} G = record { sound = G .sound; past = λ j x. elim (G .past j x) [ inl x ↦ inl x | inr x ↦ inr (x .0, omega arith) ] }
 
   put-sound : {h O : Held} {s : State} (k : ℕ) → Sound image size h O s → Sound image size h O (put k s)
   unfolding put
@@ -234,16 +230,14 @@ module _ {image : List ℕ} {size : ℕ} where
       (λ e l z. isolated-cases o w h a k s (Going image size a (suc k)) (put-going k (later G)) (later G))
       (λ e l t N. merge-going a k s G pos e t N) (λ e l t N b. deepen-going a k s G pos e t N b)
 
+  -- after the last slot at area a comes the first at the next area
+  pub next-area : {a n : ℕ} {s : State} → Going image size a n s → Going image size (suc a) 0 s
+  next-area G = record { sound = G .sound; past = λ j x. inl (elim (G .past j x) [ inl y ↦ omega arith | inr y ↦ omega arith ]) }
+
   pub pass-going : (o : RunnerConfig) (w h a : ℕ) (s : State) → Going image size (suc a) 0 s → Going image size (suc (suc a)) 0 (pass o w h (suc a) s)
   unfolding pass
-  pass-going o w h a s G = record { sound = end .sound; past = λ j x. pick j (end .past j x) }
-    where
-      end : Going image size (suc a) (length (s .clusters)) (times (length (s .clusters)) (visit o w h (suc a)) s)
-      end = times-keep (λ k u. Going image size (suc a) k u) (visit o w h (suc a)) (λ k u H. visit-going o w h (suc a) k u H (omega arith)) s G (length (s .clusters))
-
-      pick : (j : ℕ) {x : ℕ} → (x < suc a) ⊎ ((x ≡ suc a) × (j < length (s .clusters))) → (x < suc (suc a)) ⊎ ((x ≡ suc (suc a)) × (j < 0))
-      pick j (inl y) = inl (omega arith)
-      pick j (inr y) = inl (omega arith)
+  pass-going o w h a s G =
+      next-area (times-keep (λ k u. Going image size (suc a) k u) (visit o w h (suc a)) (λ k u H. visit-going o w h (suc a) k u H (omega arith)) s G (length (s .clusters)))
 
   pub passes-going : (o : RunnerConfig) (w h : ℕ) (s : State) → Going image size 1 0 s → (n : ℕ) → Going image size (suc n) 0 (passes o w h n s)
   unfolding passes
