@@ -16,7 +16,7 @@ use Rattle.rules.specs.Ledger.{ledger}
 use Rattle.rules.specs.Claim.{Stands}
 use Rattle.rules.proofs.Facts.{eqb-no}
 use Rattle.rules.proofs.Basic.{Moved, three, plain-down, plain-o, deepened-o}
-use Rattle.rules.proofs.Visits.{Going, Near, visit-cases, isolated-cases, visit-going, pass-going, times-keep, stands, root, k≢t, merge-changes, deepen-changes, deepen-from}
+use Rattle.rules.proofs.Visits.{Going, Near, visit-cases, isolated-cases, stands, root, k≢t, merge-changes, deepen-changes, deepen-from, passes-keep}
 use Rattle.rules.proofs.Early.{Early, settled}
 use Rattle.rules.proofs.Outputs.{In, area-pos}
 
@@ -99,22 +99,13 @@ module _ {image : List ℕ} {size : ℕ} where
         (λ j m n z. (z .0, subst (λ g. T (g (z .0))) (deepened-o (ledger (s .log)) k t j n) (z .1)))
 
   module _ (o : RunnerConfig) (w h : ℕ) where
-    pub pass-listed : (a : ℕ) (s : State) → Going image size (suc a) 0 s × Listed s → Going image size (suc (suc a)) 0 (pass o w h (suc a) s) × Listed (pass o w h (suc a) s)
-    unfolding pass
-    pass-listed a s R = (
-      pass-going o w h a s (R .0),
-      times-keep (λ k u. Going image size (suc a) k u × Listed u) (visit o w h (suc a))
-          (λ k u H. (
-            visit-going o w h (suc a) k u (H .0) (omega arith),
-            visit-cases o w h (suc a) k u Listed (λ x. H .1) (λ e l. put-listed k u (H .1)) (λ e l z. isolated-cases o w h (suc a) k u Listed (put-listed k u (H .1)) (H .1))
-                (λ e l t N. merge-listed (suc a) k u (H .0) (H .1) (omega arith) e t N) (λ e l t N b. deepen-listed (suc a) k u (H .0) (H .1) (omega arith) e t N b),
-          ))
-          s R (length (s .clusters)) .1,
-    )
+    -- every visit keeps it, and so it holds before every pass
+    pub visit-lists : (a k : ℕ) (s : State) → Going image size a k s → 0 < a → area (cluster s k) ≡ a → Listed s → Listed (visit o w h a k s)
+    visit-lists a k s G pos e L = visit-cases o w h a k s Listed (λ x. L) (λ z l. put-listed k s L) (λ z l n. isolated-cases o w h a k s Listed (put-listed k s L) L)
+        (λ z l t N. merge-listed a k s G L pos e t N) (λ z l t N b. deepen-listed a k s G L pos e t N b)
 
     pub passes-listed : (s : State) → Going image size 1 0 s → Listed s → (m : ℕ) → Going image size (suc m) 0 (passes o w h m s) × Listed (passes o w h m s)
-    unfolding passes
-    passes-listed s G L = times-keep (λ a u. Going image size (suc a) 0 u × Listed u) (λ a. pass o w h (suc a)) pass-listed s (G, L)
+    passes-listed s G L = passes-keep o w h Listed visit-lists s (G, L)
 
     -- a pass at an area that is not listed
     pub pass-skips : (a : ℕ) (s : State) → Going image size (suc a) 0 s → Listed s → (In (suc a) (s .listed) → ⊥) → pass o w h (suc a) s ≡ s

@@ -24,7 +24,7 @@ use Rattle.rules.proofs.Facts.{T-dec, eqb-no, countOf-some, countOf-non
 use Rattle.rules.proofs.Forest.{inside-not}
 use Rattle.rules.proofs.Basic.{Basic}
 use Rattle.rules.proofs.Sound.{Sound}
-use Rattle.rules.proofs.Visits.{Going, visit-going, pass-going, visit-cases, isolated-cases, times-keep, k≢t, next-area}
+use Rattle.rules.proofs.Visits.{Going, visit-going, visit-cases, isolated-cases, times-keep, k≢t, next-area, slots-keep, passes-keep}
 use Rattle.rules.proofs.Early.{Early, prepareStage2-going}
 use Rattle.rules.proofs.Whole.{early, stage2-passes, rests, agrees, Some, AsBefore, merge-some, deepen-some, put-some}
 use Rattle.rules.proofs.Chains.{Chained, listed, put-chained, merge-chained, deepen-chained, prepareStage2-chained}
@@ -350,26 +350,11 @@ module _ (o : RunnerConfig) (w height : ℕ) (image : List ℕ) where
 
   -- the same after any number of passes and visits: what a run that is stopped between two visits of stage 2 leaves
   pub stopped-agrees : (a m : ℕ) → Agrees o w height image (ledger (times m (visit o w height (suc a)) (passes o w height a (prepareStage2 (stage1 o w height image))) .log)) (times m (visit o w height (suc a)) (passes o w height a (prepareStage2 (stage1 o w height image))))
-  unfolding passes pass
-  stopped-agrees a m = let R = slots (suc a) (omega arith) m (passes o w height a s) (all a) in compared o w height image (suc a) m (times m (visit o w height (suc a)) (passes o w height a s)) (R .0) (R .1 .0) (R .1 .1)
+  stopped-agrees a m = let R = slots-keep o w height Keeps visit-keeps (suc a) (omega arith) (passes o w height a s) (passes-keep o w height Keeps visit-keeps s start a) m in
+      compared o w height image (suc a) m (times m (visit o w height (suc a)) (passes o w height a s)) (R .0) (R .1 .0) (R .1 .1)
     where
       s : State
       s = prepareStage2 (stage1 o w height image)
 
-      J : ℕ → ℕ → State → Type 0
-      J b k u = Going image (w * height) b k u × Keeps u
-
-      one : (b k : ℕ) (u : State) → 0 < b → J b k u → J b (suc k) (visit o w height b k u)
-      one b k u pos R = (
-        visit-going o w height b k u (R .0) pos,
-        by-cases (ℕ-discrete (area (cluster u k)) b)
-            (λ e. visit-keeps b k u (R .0) pos e (R .1))
-            (λ d. subst Keeps (sym (visit-idle o w height b k u d)) (R .1)),
-      )
-
-      slots : (b : ℕ) → 0 < b → (n : ℕ) (u : State) → J b 0 u → J b n (times n (visit o w height b) u)
-      slots b pos n u R = times-keep (λ k v. J b k v) (visit o w height b) (λ k v H. one b k v pos H) u R n
-
-      all : (n : ℕ) → J (suc n) 0 (passes o w height n s)
-      all n = times-keep (λ b v. J (suc b) 0 v) (λ b. pass o w height (suc b)) (λ b v H. (pass-going o w height b v (H .0), slots (suc b) (omega arith) (length (v .clusters)) v H .1)) s
-          (prepareStage2-going (w * height) (stage1 o w height image) (early o w height image), start-keeps) n
+      start : Going image (w * height) 1 0 s × Keeps s
+      start = (prepareStage2-going (w * height) (stage1 o w height image) (early o w height image), start-keeps)

@@ -23,10 +23,10 @@ use Rattle.rules.specs.Demand3.{Discarded}
 use Rattle.rules.proofs.Facts.{standing, eqb-no, countOf-le, countOf-lt}
 use Rattle.rules.proofs.Basic.{Moved, three}
 use Rattle.rules.proofs.Visits.{Going, later, visit-cases, isolated-cases, visit-going, times-keep, k≢t, t-slot, target-stands, merge-changes, merge-from, deepen-changes, deepen-from, next-area}
-use Rattle.rules.proofs.Early.{Early, prepareStage2-going, settled}
+use Rattle.rules.proofs.Early.{Early, prepareStage2-going}
 use Rattle.rules.proofs.Whole.{early, stage2-passes}
 use Rattle.rules.proofs.Outputs.{area-pos, area-le}
-use Rattle.rules.proofs.Bounds.{Bounded, Root, rooted, waiting, root-out, wait-out, later-waits, here, not-then, next-waits, merge-fewer, deepen-fewer}
+use Rattle.rules.proofs.Bounds.{Bounded, rooted, waiting, root-out, wait-out, later-waits, here, not-then, next-waits, merge-fewer, deepen-fewer, stood}
 
 -- ---- the pick
 
@@ -356,8 +356,8 @@ module _ (o : RunnerConfig) (w h : ℕ) (image : List ℕ) where
     queued = start-queued;
     total = omega (
       arith,
-      countOf-le (rooted s) (standing (stage1 o w h image)) (λ j x. stood j (root-out s j x)) n,
-      countOf-le (waiting 1 0 s) (standing (stage1 o w h image)) (λ j x. stood j (wait-out 1 0 s j x .0)) n,
+      countOf-le (rooted s) (standing (stage1 o w h image)) (λ j x. stood (stage1 o w h image) j (root-out s j x)) n,
+      countOf-le (waiting 1 0 s) (standing (stage1 o w h image)) (λ j x. stood (stage1 o w h image) j (wait-out 1 0 s j x .0)) n,
       E .few n (omega arith),
     );
     table = length-map (stage1 o w h image .clusters) (λ c. withResidue (c .sum) c);
@@ -371,9 +371,6 @@ module _ (o : RunnerConfig) (w h : ℕ) (image : List ℕ) where
 
       E : Early image (w * h) (Discarded o image) (T (keyingOn o)) (w * h) (stage1 o w h image)
       E = early o w h image
-
-      stood : (j : ℕ) → Root (prepareStage2 (stage1 o w h image)) j → T (standing (stage1 o w h image) j)
-      stood j r = lt→ltb 0 (area (cluster (stage1 o w h image) j)) (subst (λ c. 0 < area c) (settled (stage1 o w h image) j) (r .0))
 
   idle-at : pick (turns o w h (reached .count) (start (prepareStage2 (stage1 o w h image))) .keys) ≡ off
   idle-at = ap (λ q. pick (q .keys)) (reached .there) ∙ pick-none (reached .keys) (none-pending (stage2 o w h (stage1 o w h image)) (reached .keys) (reached .going) (reached .queued))
@@ -393,14 +390,8 @@ module _ (o : RunnerConfig) (w h : ℕ) (image : List ℕ) where
   pub turns-few : (m k : ℕ) → pick (turns o w h m (start (prepareStage2 (stage1 o w h image))) .keys) ≡ some k → m < 2 * (w * h)
   turns-few m k e = by-cases (decLt m (reached .count))
       (λ l. omega (arith, reached .total))
-      (λ l. absurd (differ (sym idle-at ∙ sym (ap (λ q. pick (q .keys)) (turns-idle o w h (start (prepareStage2 (stage1 o w h image))) (reached .count) idle-at m (omega arith))) ∙ e)))
-    where
-      differ : off ≡ some k → ⊥
-      differ x = subst tell x tt
-        where
-          tell : Option ℕ → Type 0
-          tell off = Unit {0}
-          tell (some j) = ⊥
+      (λ l. let idle = ap (λ q. pick (q .keys)) (turns-idle o w h (start (prepareStage2 (stage1 o w h image))) (reached .count) idle-at m (omega arith)) ∙ idle-at in
+      let z : _≡_ {A = ℕ} 0 1 = cc (idle, e) in absurd (omega arith))
 
 -- ---- what holds before every turn
 

@@ -250,9 +250,6 @@ module _ {image : List ℕ} {o : RunnerConfig} {size n : ℕ} where
 
   module _ (a k : ℕ) (s : State) (G : Going image size a k s) (W : Shows o size n a k s) (pos : 0 < a) (e : area (cluster s k) ≡ a) (nh : a ≤ o .hierarchical)
       (t : ℕ) (N : Near s (label s (getD (cluster s k .pixels) 0 0)) t) where
-    f₀ : ℕ
-    f₀ = getD (cluster s k .pixels) 0 0
-
     k-holds : T (ledger (s .log) k (getD (cluster s k .pixels) 0 0))
     k-holds = stands a k s G pos e
 

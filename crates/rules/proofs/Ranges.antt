@@ -6,7 +6,8 @@ use mathlib.Core.List.{List, [], _∷_, _++_}
 use Prim.Native.Nat.{ℕ, suc, _+_, _*_, _≤_, _<_}
 use native.Mathlib.Decide.{ℕ-discrete}
 use native.Mathlib.Omega.{arith}
-use lib.Dec.{T, eqb, ltb, ltb→lt, eqb→eq}
+use borrow.Author.Tests.{le-ltb}
+use lib.Dec.{T, eqb, ltb, eqb→eq}
 use lib.ListN.{length, getD, length-append, length-map}
 use Rattle.rules.specs.Base.{if_then_else_, keep}
 use Rattle.rules.specs.Color.{RunnerConfig, ColorSum, one, _⊕_, pixel, keyingOn}
@@ -22,7 +23,7 @@ use Rattle.rules.specs.Order.{start, turns}
 use Rattle.rules.specs.Ranges.{Fits, OnImage, Below, Ranged}
 use Rattle.rules.specs.Demand3.{Discarded, Agrees}
 use Rattle.rules.proofs.Owned.{owned}
-use Rattle.rules.proofs.Facts.{is-false, standing, bit-T, eqb-yes, countOf-le, tally-or, tally-one, countOf-bound}
+use Rattle.rules.proofs.Facts.{standing, bit-T, eqb-yes, countOf-le, tally-or, tally-one, countOf-bound}
 use Rattle.rules.proofs.Basic.{Basic, Moved, plain-to, plain-up, some-held, moved-every}
 use Rattle.rules.proofs.Sound.{Sound}
 use Rattle.rules.proofs.Visits.{Going, Near, visit-cases, isolated-cases, stands, k≢t, t-slot, target-stands, merge-going, merge-changes, deepen-changes, merge-from, deepen-from, merge-to, deepen-to}
@@ -292,10 +293,7 @@ pub never-seven : (size : ℕ) (x y : ColorSum) → size ≤ 1048576 → Fits si
 unfolding sumAnswer _⊕_
 never-seven size x y l F =
     let t = fits-total size (x ⊕ y) l F in
-    rw (not-above (x .r + y .r) (t .0), not-above (x .g + y .g) (t .1), not-above (x .b + y .b) (t .2), not-above (x .a + y .a) (t .3), not-above (x .count + y .count) (t .4))
-  where
-    not-above : (z : ℕ) → z ≤ largestTotal → ltb largestTotal z ≡ false
-    not-above z l = is-false (ltb largestTotal z) (λ t. omega (arith, ltb→lt largestTotal z t))
+    rw (le-ltb _ (x .r + y .r) (t .0), le-ltb _ (x .g + y .g) (t .1), le-ltb _ (x .b + y .b) (t .2), le-ltb _ (x .a + y .a) (t .3), le-ltb _ (x .count + y .count) (t .4))
 
 -- No addition of a run meets refusal 7: not that of a pixel or the merge of two clusters in stage 1 (Early holds after every pixel: `early-at`), not the merge of
 -- two sums in stage 2, nor of two residues (Going holds before every visit).

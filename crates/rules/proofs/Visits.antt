@@ -1,6 +1,6 @@
 -- Stage 2 keeps what holds: each visit, each pass, all of them.
 use mathlib.Core.Path.{_≡_, refl, sym, ap, _∙_, subst}
-use mathlib.Core.Logic.{_≢_, _⊎_, inl, inr}
+use mathlib.Core.Logic.{_≢_, _⊎_, inl, inr, by-cases}
 use mathlib.Core.Bool.{Bool, true, false, _||_}
 use mathlib.Core.List.{List, [], _∷_}
 use mathlib.Core.Option.{Option, some}
@@ -19,7 +19,7 @@ use Rattle.rules.specs.Stage2.{labelsAt, labelsAround, neighbours, rank,
 use Rattle.rules.specs.Ledger.{Held, ledger}
 use Rattle.rules.specs.Claim.{bit, occurs, Stands}
 use Rattle.rules.proofs.Owned.{owned}
-use Rattle.rules.proofs.Facts.{eqb-yes, bit-T}
+use Rattle.rules.proofs.Facts.{eqb-yes, bit-T, eqb-no}
 use Rattle.rules.proofs.Basic.{Moved, three, merge-f, merge-t, merge-moved, deepen-f, deepen-t, deepen-moved}
 use Rattle.rules.proofs.Sound.{Sound, plain-sound, deepened-sound}
 
@@ -238,6 +238,23 @@ module _ {image : List ℕ} {size : ℕ} where
   unfolding pass
   pass-going o w h a s G =
       next-area (times-keep (λ k u. Going image size (suc a) k u) (visit o w h (suc a)) (λ k u H. visit-going o w h (suc a) k u H (omega arith)) s G (length (s .clusters)))
+
+  module _ (o : RunnerConfig) (w h : ℕ) (P : State → Type 0) (step : (a k : ℕ) (s : State) → Going image size a k s → 0 < a → area (cluster s k) ≡ a → P s → P (visit o w h a k s)) where
+    -- what every visit keeps holds after each slot of a pass
+    pub slots-keep : (a : ℕ) → 0 < a → (s : State) → Going image size a 0 s × P s → (n : ℕ) → Going image size a n (times n (visit o w h a) s) × P (times n (visit o w h a) s)
+    unfolding visit
+    slots-keep a pos = times-keep (λ k u. Going image size a k u × P u) (visit o w h a) (λ k u R. (
+      visit-going o w h a k u (R .0) pos,
+      by-cases (ℕ-discrete (area (cluster u k)) a)
+          (λ e. step a k u (R .0) pos e (R .1))
+          (λ d. rw (eqb-no (area (cluster u k)) a d) (R .1)),
+    ))
+
+    -- and after each pass
+    pub passes-keep : (s : State) → Going image size 1 0 s × P s → (m : ℕ) → Going image size (suc m) 0 (passes o w h m s) × P (passes o w h m s)
+    unfolding passes pass
+    passes-keep = times-keep (λ a u. Going image size (suc a) 0 u × P u) (λ a. pass o w h (suc a))
+        (λ a u R. let r = slots-keep (suc a) (omega arith) u R (length (u .clusters)) in (next-area (r .0), r .1))
 
   pub passes-going : (o : RunnerConfig) (w h : ℕ) (s : State) → Going image size 1 0 s → (n : ℕ) → Going image size (suc n) 0 (passes o w h n s)
   unfolding passes
