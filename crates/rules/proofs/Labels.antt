@@ -2,8 +2,7 @@
 use mathlib.Core.Path.{_≡_, refl, sym, ap, ap₂, _∙_, subst}
 use mathlib.Core.Bool.{Bool, true, false, not, _&&_, _||_}
 use mathlib.Core.List.{List, [], _∷_}
-use mathlib.Core.Option.{Option, some}
-use mathlib.Core.Option.{none as off}
+use mathlib.Core.Option.{Option, some, none as off}
 use Prim.Native.Nat.{ℕ, suc, _+_, _-_, _*_, _/_, _%_, _≤_, _<_}
 use native.Mathlib.Nat.{div-lt-iff-lt-mul, mul-comm, mul-suc, mul-le-mul-left, div-add-mod}
 use native.Mathlib.Omega.{arith}
@@ -24,8 +23,7 @@ use Rattle.rules.specs.Ranges.{Below}
 use Rattle.rules.specs.Demand3.{Discarded, Agrees}
 use Rattle.rules.proofs.Facts.{is-false, eqb-yes}
 use Rattle.rules.proofs.Visits.{Going}
-use Rattle.rules.proofs.Connected.{AllSome}
-use Rattle.rules.proofs.Connected.{Some as Sided}
+use Rattle.rules.proofs.Connected.{AllSome, Some as Sided}
 use Rattle.rules.proofs.Links.{after-none}
 use Rattle.rules.proofs.Ranges.{pixels-below}
 use Rattle.rules.proofs.Moments.{compared, Keeps, visit-keeps, start-keeps}

@@ -28,12 +28,7 @@ module _ (B : List ℕ) (t : ℕ) (r : ColorSum) where
   }
 
   residue-open : {k : ℕ} {K E : List ℕ} → Open k K B E → Open k K (savedResidue B t r) E
-  residue-open {k} o = record {
-    slot = rw residue-length (o .slot);
-    end = o .end;
-    count = rw (residue-head k) (o .count);
-    tail = rw (residue-head k) (o .tail);
-  }
+  residue-open {k} o = record { slot = rw residue-length (o .slot); end = o .end; count = rw (residue-head k) (o .count); tail = rw (residue-head k) (o .tail) }
 
   -- and what can be appended
   pub residue-append : {f : ℕ} {L K E : List ℕ} → CanAppend f t L K B E → CanAppend f t L K (savedResidue B t r) E

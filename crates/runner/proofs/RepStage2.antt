@@ -32,14 +32,7 @@ use Rattle.runner.proofs.Joined.{moved-labels, moved-links, moved-tails
 -- a cluster that is put out changes no buffer
 pub rep-put : {size : ℕ} {s : State} {t₀ ls ks tb es : List ℕ} (k : ℕ) → Rep size s t₀ ls ks tb es → Rep size (put k s) t₀ ls ks tb es
 unfolding put links link slot
-rep-put k R = record {
-  labelled = R .labelled;
-  linked = R .linked;
-  tabled = R .tabled;
-  tails = R .tails;
-  hole-tails = R .hole-tails;
-  room = R .room;
-}
+rep-put k R = record { labelled = R .labelled; linked = R .linked; tabled = R .tabled; tails = R .tails; hole-tails = R .hole-tails; room = R .room }
 
 -- links read only labels and lists
 pub links-same : (s u : State) → s .labels ≡ u .labels → ((k : ℕ) → cluster s k .pixels ≡ cluster u k .pixels) → links s ≡ links u

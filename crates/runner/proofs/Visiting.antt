@@ -61,14 +61,7 @@ module _ {size : ℕ} {u : State} {keys t₀ L K B W : List ℕ} {n m marks : �
 -- buffers that hold a state with one more output hold the state
 unput : {size : ℕ} {s : State} {t₀ L K B E : List ℕ} (k : ℕ) → Rep size (put k s) t₀ L K B E → Rep size s t₀ L K B E
 unfolding put links link slot
-unput k R = record {
-  labelled = R .labelled;
-  linked = R .linked;
-  tabled = R .tabled;
-  tails = R .tails;
-  hole-tails = R .hole-tails;
-  room = R .room;
-}
+unput k R = record { labelled = R .labelled; linked = R .linked; tabled = R .tabled; tails = R .tails; hole-tails = R .hole-tails; room = R .room }
 
 -- ---- the visit of the rules
 
