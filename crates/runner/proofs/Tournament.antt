@@ -61,6 +61,13 @@ module _ (queue : List ℕ) (n room x : ℕ) where
   unfolding entryAt
   at-node l = rw (lt-leb n x l)
 
+-- where the numbers that a position reads are the same, it holds the same
+same-entry : (queue next : List ℕ) (n room x : ℕ) → (x < n → (getD next (room + 2 * x) 0 ≡ getD queue (room + 2 * x) 0) × (getD next (room + 2 * x + 1) 0 ≡ getD queue (room + 2 * x + 1) 0))
+    → (n ≤ x → getD next (x - n) 0 ≡ getD queue (x - n) 0) → entryAt next n room x ≡ entryAt queue n room x
+same-entry queue next n room x inner outer = by-cases (decLt x n)
+    (λ y. at-node next n room x y ∙ ap₂ (λ k s. record { key = k; slot = s }) (inner y .0) (inner y .1) ∙ sym (at-node queue n room x y))
+    (λ y. at-leaf next n room x (omega arith) ∙ ap (λ k. record { key = k; slot = x - n }) (outer (omega arith)) ∙ sym (at-leaf queue n room x (omega arith)))
+
 -- ---- the least
 
 module _ (queue : List ℕ) (n room : ℕ) (H : Tree queue n room) where
@@ -90,20 +97,15 @@ module _ (queue : List ℕ) (n room : ℕ) (H : Tree queue n room) where
   -- every position holds some slot with its key
   some-leaf : (m x : ℕ) → 2 * n ≤ x + m → 1 ≤ x → x < 2 * n → (k : ℕ) × (k < n) × (entryAt queue n room x ≡ leaf queue k)
   some-leaf zero x l a b = absurd (omega arith)
-  some-leaf (suc m) x l a b = go (decLt x n) (some-leaf m (2 * x)) (some-leaf m (2 * x + 1))
+  some-leaf (suc m) x l a b = by-cases (decLt x n)
+      (λ d. elim (first-of (entryAt queue n room (2 * x)) (entryAt queue n room (2 * x + 1)) .2) [
+        | inl e ↦ up (2 * x) (node-is x a d ∙ e) (some-leaf m (2 * x) (omega arith) (omega arith) (omega arith))
+        | inr e ↦ up (2 * x + 1) (node-is x a d ∙ e) (some-leaf m (2 * x + 1) (omega arith) (omega arith) (omega arith))
+      ])
+      (λ d. (x - n, omega arith, at-leaf queue n room x (omega arith)))
     where
       up : (y : ℕ) → entryAt queue n room x ≡ entryAt queue n room y → (k : ℕ) × (k < n) × (entryAt queue n room y ≡ leaf queue k) → (k : ℕ) × (k < n) × (entryAt queue n room x ≡ leaf queue k)
       up y e (k, l, z) = (k, l, e ∙ z)
-
-      go : Dec (x < n) → (2 * n ≤ 2 * x + m → 1 ≤ 2 * x → 2 * x < 2 * n → (k : ℕ) × (k < n) × (entryAt queue n room (2 * x) ≡ leaf queue k))
-          → (2 * n ≤ 2 * x + 1 + m → 1 ≤ 2 * x + 1 → 2 * x + 1 < 2 * n → (k : ℕ) × (k < n) × (entryAt queue n room (2 * x + 1) ≡ leaf queue k))
-          → (k : ℕ) × (k < n) × (entryAt queue n room x ≡ leaf queue k)
-      go (no d) L R = (x - n, omega arith, at-leaf queue n room x (omega arith))
-      go (yes d) L R = side (first-of (entryAt queue n room (2 * x)) (entryAt queue n room (2 * x + 1)) .2)
-        where
-          side : (firstBelow queue n room x ≡ entryAt queue n room (2 * x)) ⊎ (firstBelow queue n room x ≡ entryAt queue n room (2 * x + 1)) → (k : ℕ) × (k < n) × (entryAt queue n room x ≡ leaf queue k)
-          side (inl e) = up (2 * x) (node-is x a d ∙ e) (L (omega arith) (omega arith) (omega arith))
-          side (inr e) = up (2 * x + 1) (node-is x a d ∙ e) (R (omega arith) (omega arith) (omega arith))
 
   -- the root is the least
   pub root-first : 1 ≤ n → First queue n room (entryAt queue n room 1)
@@ -138,17 +140,9 @@ module _ (queue : List ℕ) (n room : ℕ) (S : Sized n room (length queue)) (j 
 
   -- what stands at every other position stays
   made-other : (x : ℕ) → x < 2 * n → (x ≡ j → ⊥) → entryAt (refreshed queue n room j) n room x ≡ entryAt queue n room x
-  made-other x l d = go (decLt x n)
-    where
-      go : Dec (x < n) → entryAt (refreshed queue n room j) n room x ≡ entryAt queue n room x
-      go (yes y) =
-          at-node (refreshed queue n room j) n room x y
-          ∙ ap₂ (λ k s. record { key = k; slot = s }) (other (room + 2 * x) (λ e. d (omega arith)) (λ e. omega arith)) (other (room + 2 * x + 1) (λ e. omega arith) (λ e. d (omega arith)))
-          ∙ sym (at-node queue n room x y)
-      go (no y) =
-          at-leaf (refreshed queue n room j) n room x (omega arith)
-          ∙ ap (λ k. record { key = k; slot = x - n }) (made-keys (x - n) (omega (arith, S .within)))
-          ∙ sym (at-leaf queue n room x (omega arith))
+  made-other x l d = same-entry queue (refreshed queue n room j) n room x
+      (λ y. (other (room + 2 * x) (λ e. d (omega arith)) (λ e. omega arith), other (room + 2 * x + 1) (λ e. omega arith) (λ e. d (omega arith))))
+      (λ y. made-keys (x - n) (omega (arith, S .within)))
 
   made-node : entryAt (refreshed queue n room j) n room j ≡ firstBelow queue n room j
   unfolding refreshed
@@ -210,17 +204,9 @@ climb-start queue n room k v S b H = record {
 }
   where
     same : (x : ℕ) → x < 2 * n → (x ≡ n + k → ⊥) → entryAt (set queue k v) n room x ≡ entryAt queue n room x
-    same x l d = go (decLt x n)
-      where
-        go : Dec (x < n) → entryAt (set queue k v) n room x ≡ entryAt queue n room x
-        go (yes y) =
-            at-node (set queue k v) n room x y
-            ∙ ap₂ (λ k s. record { key = k; slot = s }) (getD-set-other queue k (room + 2 * x) v 0 (λ e. omega (arith, S .within))) (getD-set-other queue k (room + 2 * x + 1) v 0 (λ e. omega (arith, S .within)))
-            ∙ sym (at-node queue n room x y)
-        go (no y) =
-            at-leaf (set queue k v) n room x (omega arith)
-            ∙ ap (λ k. record { key = k; slot = x - n }) (getD-set-other queue k (x - n) v 0 (λ e. d (omega arith)))
-            ∙ sym (at-leaf queue n room x (omega arith))
+    same x l d = same-entry queue (set queue k v) n room x
+        (λ y. (getD-set-other queue k (room + 2 * x) v 0 (λ e. omega (arith, S .within)), getD-set-other queue k (room + 2 * x + 1) v 0 (λ e. omega (arith, S .within))))
+        (λ y. getD-set-other queue k (x - n) v 0 (λ e. d (omega arith)))
 
 module _ (queue₀ queue next : List ℕ) (n room j : ℕ) (C : Climbing queue₀ queue n room j) (pos : 0 < j) (e : next ≡ refreshed queue n room j) where
   -- a node made from its children leaves at most the node above it
@@ -239,13 +225,11 @@ module _ (queue₀ queue next : List ℕ) (n room j : ℕ) (C : Climbing queue�
     sized = climb-up .sized;
     long = climb-up .long;
     inside = omega (arith, C .inside);
-    but = λ i p q d. go i p q (ℕ-discrete i (j / 2));
+    but = λ i p q d. by-cases (ℕ-discrete i (j / 2))
+        (λ z. subst (λ y. entryAt y n room i ≡ firstBelow y n room i) (sym same) (C .but i p q (λ x. omega arith)))
+        (λ d. climb-up .but i p q d);
     keys = climb-up .keys;
   }
-    where
-      go : (i : ℕ) → 1 ≤ i → i < n → Dec (i ≡ j / 2) → entryAt next n room i ≡ firstBelow next n room i
-      go i p q (no d) = climb-up .but i p q d
-      go i p q (yes z) = subst (λ y. entryAt y n room i ≡ firstBelow y n room i) (sym same) (C .but i p q (λ x. omega arith))
 
 pub climb-end : (queue₀ queue : List ℕ) (n room j : ℕ) → j ≤ 0 → Climbing queue₀ queue n room j → Tree queue n room
 unfolding Tree
