@@ -533,21 +533,14 @@ module _ {image : List ℕ} {size : ℕ} {Gone : ℕ → Type 0} {Keyed : Type 0
         pu : sameAt o image (some i) (up w i) ≡ true → u ≡ 0 → Keyed
         pu = like-lit i s E (up w i) (up-earlier w i (wide i fits))
 
-        third : (a b c d : Bool) → a && b && c && d ≡ true → (c ≡ true) × (d ≡ true)
-        third true true true true e = (refl, refl)
-        third true true true false e = (refl, e)
-        third true true false d e = absurd (true≢false (sym e))
-        third true false c d e = absurd (true≢false (sym e))
-        third false b c d e = absurd (true≢false (sym e))
-
         differ : leftMeetsUp o w image i s ≡ true → l ≢ u
         differ e x = true≢false (sym e ∙ ap (λ b. not b && sameAt o image (left w i) (up w i) && sameAt o image (some i) (left w i) && sameAt o image (some i) (up w i)) (eqb-yes l u x))
 
         pick : (b : Bool) → leftMeetsUp o w image i s ≡ b → Early image size Gone Keyed (suc i) (if b then combineThenPlace o w image i l u s else place o w image i l u s)
         pick true e =
-            combine-place i l u s E fits (differ e) (labelAt-next i s (left w i) E) (labelAt-next i s (up w i) E)
-            (pl (third (not (eqb l u)) (sameAt o image (left w i) (up w i)) (sameAt o image (some i) (left w i)) (sameAt o image (some i) (up w i)) e .0))
-            (pu (third (not (eqb l u)) (sameAt o image (left w i) (up w i)) (sameAt o image (some i) (left w i)) (sameAt o image (some i) (up w i)) e .1))
+            let f = not (eqb l u) && sameAt o image (left w i) (up w i) in
+            let r = both-true (f && sameAt o image (some i) (left w i)) (sameAt o image (some i) (up w i)) e in
+            combine-place i l u s E fits (differ e) (labelAt-next i s (left w i) E) (labelAt-next i s (up w i) E) (pl (both-true f (sameAt o image (some i) (left w i)) (r .0) .1)) (pu (r .1))
         pick false e = place-early i l u s E fits (labelAt-next i s (left w i) E) (labelAt-next i s (up w i) E) pl pu
 
     pub taken-early : Early image size Gone Keyed 0 (fresh size) → (n : ℕ) → n ≤ size → Early image size Gone Keyed n (taken o w image size n)

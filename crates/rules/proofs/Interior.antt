@@ -19,7 +19,7 @@ use Rattle.rules.specs.Run.{stage1}
 use Rattle.rules.specs.Order.{anyOf, interior, start, turns}
 use Rattle.rules.specs.Ledger.{Held, enter, ledger}
 use Rattle.rules.specs.Claim.{bit, occurs, Stands, Holds}
-use Rattle.rules.proofs.Facts.{is-true, T-or, T-or-l, T-or-r, eqb-yes, eqb-no, keep-le, same-bool, T-both}
+use Rattle.rules.proofs.Facts.{is-true, T-or, T-or-l, T-or-r, eqb-yes, eqb-no, keep-le, same-bool, T-both, both-true}
 use Rattle.rules.proofs.Basic.{Basic, Moved, three, plain-f, plain-o, plain-up, deepened-o, deepened-up, deepened-to}
 use Rattle.rules.proofs.Visits.{Going, Near, visit-cases-why, isolated-cases, stands, root, k≢t, target-root, target-stands, merge-changes, deepen-changes, merge-to, deepen-from, deepen-to}
 use Rattle.rules.proofs.Early.{settled}
@@ -214,16 +214,10 @@ module _ (o : RunnerConfig) (w h : ℕ) where
   -- why it deepened
   deepens-boundary : (s : State) (k t : ℕ) → 1 ≤ o .goodMinArea → deepens o w h s k t ≡ true → ltb (boundary w h s k) (area (cluster s k)) ≡ true
   unfolding deepens
-  deepens-boundary s k t m e = go (eqb (o .goodMinArea) 0) (eqb-no (o .goodMinArea) 0 (λ z. omega arith)) (eqb (o .hierarchical) 4294967295) (ltb (o .goodMinArea) (area (cluster s k))) (ltb (area (cluster s k)) (o .goodMaxArea))
-      (ltb (boundary w h s k) (area (cluster s k))) (exceeds (diff s k t) (o .deepenDiff)) e
-    where
-      go : (n : Bool) → n ≡ false → (a b c d f : Bool) → a && b && c && (n || d) && f ≡ true → d ≡ true
-      go true x a b c d f z = absurd (true≢false x)
-      go false x true true true true f z = refl
-      go false x true true true false f z = absurd (true≢false (sym z))
-      go false x true true false d f z = absurd (true≢false (sym z))
-      go false x true false c d f z = absurd (true≢false (sym z))
-      go false x false b c d f z = absurd (true≢false (sym z))
+  deepens-boundary s k t m e =
+      let f = eqb (o .hierarchical) 4294967295 && ltb (o .goodMinArea) (area (cluster s k)) && ltb (area (cluster s k)) (o .goodMaxArea) in
+      let d = eqb (o .goodMinArea) 0 || ltb (boundary w h s k) (area (cluster s k)) in
+      rw (eqb-no (o .goodMinArea) 0 (λ z. omega arith)) at (both-true f d (both-true (f && d) (exceeds (diff s k t) (o .deepenDiff)) e .0) .1)
 
   put-hollowed : (k : ℕ) (s : State) → Hollowed s → Hollowed (put k s)
   unfolding put
