@@ -67,6 +67,10 @@ pub T-bit : (b : Bool) → T b → bit b ≡ 1
 T-bit true t = refl
 T-bit false t = absurd t
 
+bit-le : (a b : Bool) → (T a → T b) → bit a ≤ bit b
+bit-le true b f = omega (arith, T-bit b (f tt))
+bit-le false b f = omega arith
+
 pub occurs-append : (p : ℕ) (xs ys : List ℕ) → occurs p (xs ++ ys) ≡ occurs p xs + occurs p ys
 occurs-append p [] ys = sym (zero-add (occurs p ys))
 occurs-append p (x ∷ xs) ys = omega (arith, occurs-append p xs ys)
@@ -161,33 +165,14 @@ module _ (image : List ℕ) where
 pub countOf-le : (a b : ℕ → Bool) → ((q : ℕ) → T (a q) → T (b q)) → (n : ℕ) → countOf a n ≤ countOf b n
 unfolding countOf
 countOf-le a b f zero = omega arith
-countOf-le a b f (suc n) = step (a n) (b n) (f n) (countOf-le a b f n)
-  where
-    step : (u v : Bool) → (T u → T v) → countOf a n ≤ countOf b n → bit u + countOf a n ≤ bit v + countOf b n
-    step true true g h = omega arith
-    step true false g h = absurd (g tt)
-    step false true g h = omega arith
-    step false false g h = omega arith
+countOf-le a b f (suc n) = omega (arith, bit-le (a n) (b n) (f n), countOf-le a b f n)
 
 pub countOf-lt : (a b : ℕ → Bool) → ((q : ℕ) → T (a q) → T (b q)) → (n q : ℕ) → q < n → T (b q) → (T (a q) → ⊥) → countOf a n < countOf b n
 unfolding countOf
 countOf-lt a b f zero q l x y = absurd (omega arith)
-countOf-lt a b f (suc n) q l x y = step (ℕ-discrete q n) (λ g. countOf-lt a b f n q g x y)
-  where
-    last : (u v : Bool) → T v → (T u → ⊥) → countOf a n ≤ countOf b n → bit u + countOf a n < bit v + countOf b n
-    last true v g e h = absurd (e tt)
-    last false true g e h = omega arith
-    last false false g e h = absurd g
-
-    go : (u v : Bool) → (T u → T v) → countOf a n < countOf b n → bit u + countOf a n < bit v + countOf b n
-    go true true g h = omega arith
-    go true false g h = absurd (g tt)
-    go false true g h = omega arith
-    go false false g h = omega arith
-
-    step : Dec (q ≡ n) → (q < n → countOf a n < countOf b n) → bit (a n) + countOf a n < bit (b n) + countOf b n
-    step (yes e) ih = last (a n) (b n) (subst (λ m. T (b m)) e x) (λ z. y (subst (λ m. T (a m)) (sym e) z)) (countOf-le a b f n)
-    step (no d) ih = go (a n) (b n) (f n) (ih (omega arith))
+countOf-lt a b f (suc n) q l x y = by-cases (ℕ-discrete q n)
+    (λ e. omega (arith, T-bit (b n) (subst (λ m. T (b m)) e x), ap bit (is-false (a n) (λ z. y (subst (λ m. T (a m)) (sym e) z))), countOf-le a b f n))
+    (λ d. omega (arith, bit-le (a n) (b n) (f n), countOf-lt a b f n q (omega arith) x y))
 
 -- where b has more, it has one that a has not
 pub countOf-some : (a b : ℕ → Bool) (n : ℕ) → countOf a n < countOf b n → (q : ℕ) × T (b q) × (T (a q) → ⊥)

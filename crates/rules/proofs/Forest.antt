@@ -65,7 +65,10 @@ module _ {H O H′ O′ : ℕ → ℕ → Type 0} {lab lab′ : ℕ → ℕ} {Ke
 
   -- whatever meets t is inside it now
   into : (j p : ℕ) → j ≢ t → H j p → H′ t p → Inside H′ j t
-  into j p n a b = pick (M .down t p b .1)
+  into j p n a b = elim (M .down t p b .1) [
+    | inl x ↦ by (x .1) (ℕ-discrete j f)
+    | inr x ↦ let l : lab p ≡ t = M .t-top p x in still j t n t-kept (subst (λ m. Inside H j m) l (F .under-top j p a (λ e. n (e ∙ l))))
+  ]
     where
       by : H f p → Dec (j ≡ f) → Inside H′ j t
       by x (yes e) = (
@@ -80,12 +83,6 @@ module _ {H O H′ O′ : ℕ → ℕ → Type 0} {lab lab′ : ℕ → ℕ} {Ke
           let l : lab p ≡ f = M .f-top p x in
           let i : Inside H j f = subst (λ m. Inside H j m) l (F .under-top j p a (λ e. d (e ∙ l))) in
           (λ q h. M .to q (i .0 q (old j q n h)), (i .1 .0, M .to (i .1 .0) (i .1 .1), λ h. i .1 .2 (old j (i .1 .0) n h)))
-
-      pick : ((t ≡ t) × H f p) ⊎ H t p → Inside H′ j t
-      pick (inl x) = by (x .1) (ℕ-discrete j f)
-      pick (inr x) =
-          let l : lab p ≡ t = M .t-top p x in
-          still j t n t-kept (subst (λ m. Inside H j m) l (F .under-top j p a (λ e. n (e ∙ l))))
 
   -- the clusters that hold p, where f does not, are those that did
   same-place : (k p : ℕ) → (H f p → ⊥) → H′ k p → H k p

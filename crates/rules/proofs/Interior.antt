@@ -7,8 +7,8 @@ use mathlib.Core.List.{List, [], _∷_, _++_}
 use mathlib.Core.Option.{Option, some, none as off}
 use Prim.Native.Nat.{ℕ, suc, _+_, _*_, _≤_, _<_}
 use native.Mathlib.Omega.{arith}
-use borrow.Author.Tests.{eqb-false, eqb-true, ltb-true}
-use lib.Dec.{T, eqb, ltb, lt→ltb, ltb→lt}
+use borrow.Author.Tests.{eqb-false, ltb-true}
+use lib.Dec.{T, eqb, eqb→eq, ltb, lt→ltb, ltb→lt}
 use lib.ListN.{length, getD}
 use Rattle.rules.specs.Base.{if_then_else_, member, keep}
 use Rattle.rules.specs.Color.{RunnerConfig, exceeds}
@@ -19,7 +19,7 @@ use Rattle.rules.specs.Run.{stage1}
 use Rattle.rules.specs.Order.{anyOf, interior, start, turns}
 use Rattle.rules.specs.Ledger.{Held, enter, ledger}
 use Rattle.rules.specs.Claim.{bit, occurs, Stands, Holds}
-use Rattle.rules.proofs.Facts.{is-true, T-or, T-or-l, T-or-r, eqb-yes, eqb-no, keep-le, same-bool, T-both, both-true}
+use Rattle.rules.proofs.Facts.{is-true, T-or, T-or-l, T-or-r, eqb-yes, eqb-no, keep-le, same-bool, T-both, both-true, T-and}
 use Rattle.rules.proofs.Basic.{Basic, Moved, three, plain-f, plain-o, plain-up, deepened-o, deepened-up, deepened-to}
 use Rattle.rules.proofs.Visits.{Going, Near, visit-cases-why, isolated-cases, stands, root, k≢t, target-root, target-stands, merge-changes, deepen-changes, merge-to, deepen-from, deepen-to}
 use Rattle.rules.proofs.Early.{settled}
@@ -53,19 +53,14 @@ in-member q (x ∷ xs) (inr i) = T-or-r (eqb q x) (member q xs) (in-member q xs 
 
 pub member-in : (q : ℕ) (xs : List ℕ) → T (member q xs) → In q xs
 member-in q [] t = t
-member-in q (x ∷ xs) t = go (eqb q x) refl t (member-in q xs)
-  where
-    go : (b : Bool) → eqb q x ≡ b → T (b || member q xs) → (T (member q xs) → In q xs) → (q ≡ x) ⊎ In q xs
-    go true e y ih = inl (eqb-true q x e)
-    go false e y ih = inr (ih y)
+member-in q (x ∷ xs) t = elim (T-or (eqb q x) (member q xs) t) [ inl y ↦ inl (eqb→eq q x y) | inr y ↦ inr (member-in q xs y) ]
 
 member-append : (q : ℕ) (xs ys : List ℕ) → T (member q (xs ++ ys)) → T (member q xs) ⊎ T (member q ys)
 member-append q [] ys t = inr t
-member-append q (x ∷ xs) ys t = go (eqb q x) t (member-append q xs ys)
-  where
-    go : (b : Bool) → T (b || member q (xs ++ ys)) → (T (member q (xs ++ ys)) → T (member q xs) ⊎ T (member q ys)) → T (b || member q xs) ⊎ T (member q ys)
-    go true y ih = inl tt
-    go false y ih = ih y
+member-append q (x ∷ xs) ys t = elim (T-or (eqb q x) (member q (xs ++ ys)) t) [
+  | inl y ↦ inl (T-or-l (eqb q x) (member q xs) y)
+  | inr y ↦ elim (member-append q xs ys y) [ inl z ↦ inl (T-or-r (eqb q x) (member q xs) z) | inr z ↦ inr z ]
+]
 
 any-some : (f : ℕ → Bool) (xs : List ℕ) → T (anyOf f xs) → (p : ℕ) × In p xs × T (f p)
 any-some f [] t = absurd t
@@ -100,12 +95,7 @@ module _ (o : RunnerConfig) (w h : ℕ) where
   unfolding allIn
   allIn-mono f g m [] t = tt
   allIn-mono f g m (off ∷ is) t = t
-  allIn-mono f g m (some i ∷ is) t = go (f i) (g i) (m i) t (allIn-mono f g m is)
-    where
-      go : (a b : Bool) → (T a → T b) → T (a && allIn f is) → (T (allIn f is) → T (allIn g is)) → T (b && allIn g is)
-      go true true n y ih = ih y
-      go true false n y ih = absurd (n tt)
-      go false b n y ih = absurd y
+  allIn-mono f g m (some i ∷ is) t = let v = T-both (f i) (allIn f is) t in T-and (g i) (allIn g is) (m i (v .0)) (allIn-mono f g m is (v .1))
 
   -- all in a, not all in a and outside b: one is in both
   allIn-diff : (a b : ℕ → Bool) (is : List (Option ℕ)) → T (allIn a is) → allIn (λ q. a q && not (b q)) is ≡ false → (q : ℕ) × T (a q) × T (b q)
@@ -123,12 +113,10 @@ module _ (o : RunnerConfig) (w h : ℕ) where
   hole-in : (s : State) (ks : List ℕ) (q : ℕ) → T (member q (holePixels s ks)) → (c : ℕ) × In c ks × T (member q (cluster s c .pixels))
   unfolding holePixels
   hole-in s [] q t = absurd t
-  hole-in s (k ∷ ks) q t = go (member-append q (cluster s k .pixels) (holePixels s ks) t) (hole-in s ks q)
-    where
-      go : T (member q (cluster s k .pixels)) ⊎ T (member q (holePixels s ks)) → (T (member q (holePixels s ks)) → (c : ℕ) × In c ks × T (member q (cluster s c .pixels)))
-          → (c : ℕ) × In c (k ∷ ks) × T (member q (cluster s c .pixels))
-      go (inl y) ih = (k, inl refl, y)
-      go (inr y) ih = let r = ih y in (r .0, inr (r .1), r .2)
+  hole-in s (k ∷ ks) q t = elim (member-append q (cluster s k .pixels) (holePixels s ks) t) [
+    | inl y ↦ (k, inl refl, y)
+    | inr y ↦ let r = hole-in s ks q y in (r .0, inr (r .1), r .2)
+  ]
 
   -- a pixel that c holds with its four neighbours
   abbrev pub Core : (ℕ → Bool) → Type 0
