@@ -4,7 +4,7 @@ use mathlib.Core.Logic.{_↔_, _≢_, _⊎_, inl, inr, by-cases}
 use mathlib.Core.Bool.{Bool, true, false, _||_}
 use mathlib.Core.List.{List, [], _∷_}
 use mathlib.Core.Option.{Option, some, none as off}
-use Prim.Native.Nat.{ℕ, zero, suc, _+_, _≤_, _<_}
+use Prim.Native.Nat.{ℕ, _+_, _≤_, _<_}
 use native.Mathlib.Decide.{decLt}
 use native.Mathlib.Omega.{arith}
 use borrow.Author.Tests.{eqb-false, eqb-true, ltb-false, ltb-true}
@@ -16,7 +16,7 @@ use Rattle.rules.specs.Grid.{sides}
 use Rattle.rules.specs.State.{State, cluster, label}
 use Rattle.rules.specs.Stage2.{labelsAt, labelsAround, neighbours}
 use Rattle.rules.specs.Claim.{countOf}
-use Rattle.rules.proofs.Facts.{countOf-one, tally-or}
+use Rattle.rules.proofs.Facts.{countOf-one, tally-or, countOf-none}
 use Rattle.rules.proofs.Visits.{All, insert-all}
 use Rattle.rules.proofs.Outputs.{In}
 use Rattle.rules.proofs.Pictures.{tally-count}
@@ -55,11 +55,7 @@ countOf-or a b d n = sym (tally-count [] (λ p. a p || b p) n) ∙ ap (λ x. x .
 -- the length of a rising list is the number of marks that stand for it
 pub rising-count : (xs : List ℕ) (n : ℕ) → Rising xs → All (λ x. x < n) xs → length xs ≡ countOf (λ j. member j xs) n
 unfolding countOf
-rising-count [] n r b = sym (none n)
-  where
-    none : (m : ℕ) → countOf (λ j. false) m ≡ 0
-    none zero = refl
-    none (suc m) = omega (arith, none m)
+rising-count [] n r b = sym (countOf-none (λ j. false) (λ j x. x) n)
 rising-count (x ∷ xs) n r b = omega (arith, rising-count xs n (r .1) (b .1), countOf-or (λ j. eqb j x) (λ j. member j xs) apart n, countOf-one x n (b .0))
   where
     apart : (p : ℕ) → T (eqb p x) → T (member p xs) → ⊥
@@ -78,11 +74,9 @@ least-is key x (y ∷ ys) r = go (ltb (key y) (key x)) refl (least-is key y ys (
     Goal t = In t (x ∷ y ∷ ys) × ((j : ℕ) → In j (x ∷ y ∷ ys) → (key t < key j) ⊎ ((key t ≡ key j) × (t ≤ j)))
 
     right : key y < key x → (t : ℕ) → Is t y ys → Goal t
-    right l t q = (inr (q .0), λ j i. elim i [ inl e ↦ inl (omega (arith, under (q .1 y (inl refl)), ap key e)) | inr i ↦ q .1 j i ])
-      where
-        under : (key t < key y) ⊎ ((key t ≡ key y) × (t ≤ y)) → key t < key x
-        under (inl z) = omega arith
-        under (inr z) = omega (arith, z .0)
+    right l t q =
+        let under : key t < key x = elim (q .1 y (inl refl)) [ inl z ↦ omega arith | inr z ↦ omega (arith, z .0) ] in
+        (inr (q .0), λ j i. elim i [ inl e ↦ inl (omega (arith, ap key e)) | inr i ↦ q .1 j i ])
 
     left : key x ≤ key y → (t : ℕ) → Is t x ys → Goal t
     left l t q = (elim (q .0) [ inl e ↦ inl e | inr i ↦ inr (inr i) ], λ j i. all j i)
@@ -135,11 +129,10 @@ module _ (o : RunnerConfig) (w h : ℕ) (s : State) (own : ℕ) where
       pick : (b : Bool) → eqb (label s i) 0 ≡ b → (c : Bool) → eqb (label s i) own ≡ c → In t (if b || c then found else insert (label s i) found) → In t found ⊎ Seen (some i ∷ is) t
       pick true e c d x = inl x
       pick false e true d x = inl x
-      pick false e false d x = side (insert-from t (label s i) found x)
-        where
-          side : (t ≡ label s i) ⊎ In t found → In t found ⊎ Seen (some i ∷ is) t
-          side (inl z) = inr ((λ y. eqb-false (label s i) 0 e (sym z ∙ y)), (λ y. eqb-false (label s i) own d (sym z ∙ y)), (i, inl refl, sym z))
-          side (inr z) = inl z
+      pick false e false d x = elim (insert-from t (label s i) found x) [
+        | inl z ↦ inr ((λ y. eqb-false (label s i) 0 e (sym z ∙ y)), (λ y. eqb-false (label s i) own d (sym z ∙ y)), (i, inl refl, sym z))
+        | inr z ↦ inl z
+      ]
 
       to : In t new ⊎ Seen is t → In t found ⊎ Seen (some i ∷ is) t
       to (inl x) = pick (eqb (label s i) 0) refl (eqb (label s i) own) refl x
@@ -156,11 +149,10 @@ module _ (o : RunnerConfig) (w h : ℕ) (s : State) (own : ℕ) where
 
       from : In t found ⊎ Seen (some i ∷ is) t → In t new ⊎ Seen is t
       from (inl x) = inl (keep (eqb (label s i) 0 || eqb (label s i) own) x)
-      from (inr x) = place (x .2 .1)
-        where
-          place : (x .2 .0 ≡ i) ⊎ InSides (x .2 .0) is → In t new ⊎ Seen is t
-          place (inl z) = inl (fresh (eqb (label s i) 0) refl (eqb (label s i) own) refl (x .0) (x .1) (ap (label s) (sym z) ∙ x .2 .2))
-          place (inr z) = inr (x .0, x .1, (x .2 .0, z, x .2 .2))
+      from (inr x) = elim (x .2 .1) [
+        | inl z ↦ inl (fresh (eqb (label s i) 0) refl (eqb (label s i) own) refl (x .0) (x .1) (ap (label s) (sym z) ∙ x .2 .2))
+        | inr z ↦ inr (x .0, x .1, (x .2 .0, z, x .2 .2))
+      ]
 
   labelsAt-rising : (is : List (Option ℕ)) (found : List ℕ) → Rising found → Rising (labelsAt (s .labels) own is found)
   unfolding labelsAt
@@ -184,21 +176,16 @@ module _ (o : RunnerConfig) (w h : ℕ) (s : State) (own : ℕ) where
       let u = labelsAt-in (sides w h p) found t in
       (λ x. to (u .0) (r .0 x), λ x. r .1 (from (u .1) x))
     where
-      first : In t found ⊎ Seen (sides w h p) t → In t found ⊎ SeenFrom (p ∷ ps) t
-      first (inl x) = inl x
-      first (inr x) = inr (x .0, x .1, (p, inl refl, x .2))
-
       to : (In t (labelsAt (s .labels) own (sides w h p) found) → In t found ⊎ Seen (sides w h p) t) → In t (labelsAt (s .labels) own (sides w h p) found) ⊎ SeenFrom ps t → In t found ⊎ SeenFrom (p ∷ ps) t
-      to f (inl x) = first (f x)
+      to f (inl x) = elim (f x) [ inl x ↦ inl x | inr x ↦ inr (x .0, x .1, (p, inl refl, x .2)) ]
       to f (inr x) = inr (x .0, x .1, (x .2 .0, inr (x .2 .1), x .2 .2))
 
       from : (In t found ⊎ Seen (sides w h p) t → In t (labelsAt (s .labels) own (sides w h p) found)) → In t found ⊎ SeenFrom (p ∷ ps) t → In t (labelsAt (s .labels) own (sides w h p) found) ⊎ SeenFrom ps t
       from f (inl x) = inl (f (inl x))
-      from f (inr x) = place (x .2 .1)
-        where
-          place : (x .2 .0 ≡ p) ⊎ In (x .2 .0) ps → In t (labelsAt (s .labels) own (sides w h p) found) ⊎ SeenFrom ps t
-          place (inl z) = inl (f (inr (x .0, x .1, (x .2 .2 .0, subst (λ m. InSides (x .2 .2 .0) (sides w h m)) z (x .2 .2 .1), x .2 .2 .2))))
-          place (inr z) = inr (x .0, x .1, (x .2 .0, z, x .2 .2))
+      from f (inr x) = elim (x .2 .1) [
+        | inl z ↦ inl (f (inr (x .0, x .1, (x .2 .2 .0, subst (λ m. InSides (x .2 .2 .0) (sides w h m)) z (x .2 .2 .1), x .2 .2 .2))))
+        | inr z ↦ inr (x .0, x .1, (x .2 .0, z, x .2 .2))
+      ]
 
   around4-rising : (ps found : List ℕ) → Rising found → Rising (labelsAround w h (s .labels) own ps found)
   unfolding labelsAround
@@ -209,11 +196,9 @@ module _ (o : RunnerConfig) (w h : ℕ) (s : State) (k : ℕ) where
   -- t is a neighbour exactly when it is neither 0 nor the label of the first pixel, and the label of a side of a pixel of k
   pub neighbours-in : (t : ℕ) → In t (neighbours w h s k) ↔ SeenFrom o w h s (label s (getD (cluster s k .pixels) 0 0)) (cluster s k .pixels) t
   unfolding neighbours
-  neighbours-in t = let r = around4-in o w h s (label s (getD (cluster s k .pixels) 0 0)) (cluster s k .pixels) [] t in (λ x. go (r .0 x), λ x. r .1 (inr x))
-    where
-      go : In t [] ⊎ SeenFrom o w h s (label s (getD (cluster s k .pixels) 0 0)) (cluster s k .pixels) t → SeenFrom o w h s (label s (getD (cluster s k .pixels) 0 0)) (cluster s k .pixels) t
-      go (inl x) = absurd x
-      go (inr x) = x
+  neighbours-in t =
+      let r = around4-in o w h s (label s (getD (cluster s k .pixels) 0 0)) (cluster s k .pixels) [] t in
+      (λ x. elim (r .0 x) [ inl x ↦ absurd x | inr x ↦ x ], λ x. r .1 (inr x))
 
   pub neighbours-rising : Rising (neighbours w h s k)
   unfolding neighbours
