@@ -30,33 +30,21 @@ insert-from x a [] (inl e) = inl e
 insert-from x a [] (inr i) = absurd i
 insert-from x a (y ∷ ys) i = pick (ltb a y) (eqb a y) i (insert-from x a ys)
   where
-    on : (x ≡ a) ⊎ In x ys → (x ≡ a) ⊎ ((x ≡ y) ⊎ In x ys)
-    on (inl e) = inl e
-    on (inr z) = inr (inr z)
-
     pick : (b c : Bool) → In x (if b then a ∷ y ∷ ys else (if c then y ∷ ys else y ∷ insert a ys)) → (In x (insert a ys) → (x ≡ a) ⊎ In x ys) → (x ≡ a) ⊎ ((x ≡ y) ⊎ In x ys)
     pick true c (inl e) ih = inl e
     pick true c (inr z) ih = inr z
     pick false true z ih = inr z
     pick false false (inl e) ih = inr (inl e)
-    pick false false (inr z) ih = on (ih z)
+    pick false false (inr z) ih = elim (ih z) [ inl e ↦ inl e | inr z ↦ inr (inr z) ]
 
 areas-from : (x : ℕ) (cs : List Cluster) (l : List ℕ) → In x (areasOf cs l) → In x l ⊎ ((j : ℕ) × (x ≡ area (getD cs j newCluster)))
 unfolding areasOf
 areas-from x [] l i = inl i
-areas-from x (c ∷ cs) l i = on (areas-from x cs (if eqb (area c) 0 then l else insert (area c) l) i)
+areas-from x (c ∷ cs) l i = elim (areas-from x cs (if eqb (area c) 0 then l else insert (area c) l) i) [ inl z ↦ pick (eqb (area c) 0) z | inr z ↦ inr (suc (z .0), z .1) ]
   where
-    new : (x ≡ area c) ⊎ In x l → In x l ⊎ ((j : ℕ) × (x ≡ area (getD (c ∷ cs) j newCluster)))
-    new (inl e) = inr (0, e)
-    new (inr z) = inl z
-
     pick : (b : Bool) → In x (if b then l else insert (area c) l) → In x l ⊎ ((j : ℕ) × (x ≡ area (getD (c ∷ cs) j newCluster)))
     pick true z = inl z
-    pick false z = new (insert-from x (area c) l z)
-
-    on : In x (if eqb (area c) 0 then l else insert (area c) l) ⊎ ((j : ℕ) × (x ≡ area (getD cs j newCluster))) → In x l ⊎ ((j : ℕ) × (x ≡ area (getD (c ∷ cs) j newCluster)))
-    on (inl z) = pick (eqb (area c) 0) z
-    on (inr z) = inr (suc (z .0), z .1)
+    pick false z = elim (insert-from x (area c) l z) [ inl e ↦ inr (0, e) | inr z ↦ inl z ]
 
 -- ---- the largest
 
@@ -91,11 +79,12 @@ module _ (k t : ℕ) (s u : State) (M : Moved k t s u) where
       (λ j m n. (j, omega (arith, ap area (M .other j m n))))
 
   moved-topped : Topped s → u .listed ≡ insert (area (cluster u t)) (s .listed) → Topped u
-  moved-topped L e = record { tops = λ x i. go x (insert-from x (area (cluster u t)) (s .listed) (subst (In x) e i)) }
-    where
-      go : (x : ℕ) → (x ≡ area (cluster u t)) ⊎ In x (s .listed) → (j : ℕ) × (x ≤ area (cluster u j))
-      go x (inl z) = (t, omega arith)
-      go x (inr z) = let y = L .tops x z in let i = above (y .0) in (i .0, omega (arith, y .1, i .1))
+  moved-topped L e = record {
+    tops = λ x i. elim (insert-from x (area (cluster u t)) (s .listed) (subst (In x) e i)) [
+      | inl z ↦ (t, omega arith)
+      | inr z ↦ let y = L .tops x z in let i = above (y .0) in (i .0, omega (arith, y .1, i .1))
+    ];
+  }
 
   -- the largest after a merge: the one before, or the target's new count
   pub moved-largest : area (cluster u k) ≤ area (cluster s k) → largest (u .clusters) ≡ max (largest (s .clusters)) (area (cluster u t))
@@ -119,11 +108,7 @@ module _ {image : List ℕ} {size : ℕ} (a k : ℕ) (s : State) (G : Going imag
 
 prepareStage2-topped : (s : State) → Topped (prepareStage2 s)
 unfolding prepareStage2 withResidue
-prepareStage2-topped s = record { tops = λ x i. go x (areas-from x (s .clusters) [] i) }
-  where
-    go : (x : ℕ) → In x [] ⊎ ((j : ℕ) × (x ≡ area (cluster s j))) → (j : ℕ) × (x ≤ area (cluster (prepareStage2 s) j))
-    go x (inl i) = absurd i
-    go x (inr z) = (z .0, omega (arith, z .1, ap area (settled s (z .0))))
+prepareStage2-topped s = record { tops = λ x i. elim (areas-from x (s .clusters) [] i) [ inl i ↦ absurd i | inr z ↦ (z .0, omega (arith, z .1, ap area (settled s (z .0)))) ] }
 
 module _ {image : List ℕ} {size : ℕ} where
   -- both are kept by every visit

@@ -200,7 +200,7 @@ skip-shows a k s W d = record {
 module _ {image : List ℕ} {o : RunnerConfig} {size n : ℕ} where
   -- the first that holds p, after k is put out, owns p
   snoc-firsts : (a k : ℕ) (s : State) → Going image size a k s → Shows o size n a k s → (p x : ℕ) → First (ledger (s .log)) p (s .outputs ++ (k ∷ [])) x → T (owned (s .log) x p)
-  snoc-firsts a k s G W p x f = pick (first-snoc (ledger (s .log)) p k x (s .outputs) f)
+  snoc-firsts a k s G W p x f = elim (first-snoc (ledger (s .log)) p k x (s .outputs) f) [ inl g ↦ W .firsts p x g | inr g ↦ mineOr (g .0) (G .sound .forest .owner x p t) ]
     where
       t : T (ledger (s .log) x p)
       t = first-holds (ledger (s .log)) p x (s .outputs ++ (k ∷ [])) f
@@ -217,10 +217,6 @@ module _ {image : List ℕ} {o : RunnerConfig} {size n : ℕ} where
               let l : label s p ≡ w .0 = G .sound .tops (w .0) p held r in
               absurd (inside-not (λ a b. T (ledger (s .log) a b)) (w .0) x (G .sound .forest .own-inner (w .0) x p (w .1) t d)
               (subst (λ m. Inside (λ a b. T (ledger (s .log) a b)) x m) l (G .sound .forest .under-top x p t (λ e. d (sym (e ∙ l))))))
-
-      pick : First (ledger (s .log)) p (s .outputs) x ⊎ (((y : ℕ) → In y (s .outputs) → T (ledger (s .log) y p) → ⊥) × (k ≡ x)) → T (owned (s .log) x p)
-      pick (inl g) = W .firsts p x g
-      pick (inr g) = mineOr (g .0) (G .sound .forest .owner x p t)
 
   put-shows : (a k : ℕ) (s : State) → Going image size a k s → Shows o size n a k s → 0 < a → area (cluster s k) ≡ a → Over o size a s k → Shows o size n a (suc k) (put k s)
   unfolding put

@@ -58,22 +58,14 @@ module _ {image : List ℕ} {size : ℕ} {h O : Held} {s : State} (S : Sound ima
 
   pub agrees : Kept image size h s
   agrees = record {
-    whole = λ j k p a b. elim (ℕ-discrete j k) [ yes e ↦ inl (λ q x. subst (λ m. T (h m q)) (sym e) x) | no d ↦ side j k (S .forest .nested j k p a b d) ];
-    distinct = λ j k n z a b. no-two j k a b (S .forest .nested j k (z .0) (z .1) (b (z .0) (z .1)) n);
+    whole = λ j k p a b. elim (ℕ-discrete j k) [ yes e ↦ inl (λ q x. subst (λ m. T (h m q)) (sym e) x) | no d ↦ elim (S .forest .nested j k p a b d) [ inl i ↦ inr (i .0) | inr i ↦ inl (i .0) ] ];
+    distinct = λ j k n z a b. elim (S .forest .nested j k (z .0) (z .1) (b (z .0) (z .1)) n) [ inl i ↦ i .1 .2 (a (i .1 .0) (i .1 .1)) | inr i ↦ i .1 .2 (b (i .1 .0) (i .1 .1)) ];
     labelled = S .forest .top-held;
     largest = λ k p a n. fewer k (label s p) (S .forest .under-top k p a n);
     lists = S .basic .lists;
     sums = S .basic .sums;
     residues = λ k z. (O k, rests k, S .residues k z);
   }
-    where
-      side : (j k : ℕ) → Inside (λ k p. T (h k p)) j k ⊎ Inside (λ k p. T (h k p)) k j → Holds h j k ⊎ Holds h k j
-      side j k (inl i) = inr (i .0)
-      side j k (inr i) = inl (i .0)
-
-      no-two : (j k : ℕ) → Holds h j k → Holds h k j → Inside (λ k p. T (h k p)) j k ⊎ Inside (λ k p. T (h k p)) k j → ⊥
-      no-two j k a b (inl i) = i .1 .2 (a (i .1 .0) (i .1 .1))
-      no-two j k a b (inr i) = i .1 .2 (b (i .1 .0) (i .1 .1))
 
 -- after n pixels of stage 1
 pub early-at : (o : RunnerConfig) (w h : ℕ) (image : List ℕ) (n : ℕ) → n ≤ w * h → Early image (w * h) (Discarded o image) (T (keyingOn o)) n (taken o w image (w * h) n)
