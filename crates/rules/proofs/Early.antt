@@ -192,21 +192,13 @@ module _ {image : List ℕ} {size : ℕ} {Gone : ℕ → Type 0} {Keyed : Type 0
       shown = λ p x. by-cases (ℕ-discrete p i)
           (λ e. subst (λ q. T (enter (added i k) (ledger (s .log)) (label s′ q) q)) (sym e) (subst (λ m. T (enter (added i k) (ledger (s .log)) m i)) (sym at-i) (added-here (ledger (s .log)) i k)))
           (λ d. subst (λ m. T (enter (added i k) (ledger (s .log)) m p)) (sym (at-o p d)) (added-up (ledger (s .log)) i k (label s p) p (E .basic .shown p (λ z. x (at-o p d ∙ z)))));
-      places = λ j p x. place′ j p (added-down (ledger (s .log)) i k j p x);
-      slots = λ j p x. slot j p (added-down (ledger (s .log)) i k j p x);
+      places = λ j p x. elim (added-down (ledger (s .log)) i k j p x) [ inl x ↦ omega (arith, wide) | inr x ↦ omega (arith, wide, E .basic .width, E .basic .places j p x) ];
+      slots = λ j p x. elim (added-down (ledger (s .log)) i k j p x) [ inl x ↦ omega (arith, A .k-next, A .next-room) | inr x ↦ omega (arith, E .basic .slots j p x, A .grows) ];
       width = wide;
     }
       where
         wide : length (s′ .labels) ≡ size
         wide = ap length (A .labels) ∙ length-set (s .labels) i k ∙ E .basic .width
-
-        place′ : (j p : ℕ) → ((j ≡ k) × (p ≡ i)) ⊎ T (ledger (s .log) j p) → p < length (s′ .labels)
-        place′ j p (inl x) = omega (arith, wide)
-        place′ j p (inr x) = omega (arith, wide, E .basic .width, E .basic .places j p x)
-
-        slot : (j p : ℕ) → ((j ≡ k) × (p ≡ i)) ⊎ T (ledger (s .log) j p) → j < length (s′ .clusters)
-        slot j p (inl x) = omega (arith, A .k-next, A .next-room)
-        slot j p (inr x) = omega (arith, E .basic .slots j p x, A .grows)
 
     pub add-early : Early image size Gone Keyed (suc i) s′
     unfolding h h′
@@ -218,16 +210,16 @@ module _ {image : List ℕ} {size : ℕ} {Gone : ℕ → Type 0} {Keyed : Type 0
             → (T (ledger (s′ .log) k i)) → ((j p : ℕ) → T (ledger (s .log) j p) → T (ledger (s′ .log) j p)) → Early image size Gone Keyed (suc i) s′
         build q B down here up = record {
           basic = B;
-          flats = λ j p x. flat′ j p (down j p x);
-          before = λ j p x. before′ j p (down j p x);
+          flats = λ j p x. elim (down j p x) [ inl x ↦ ap (label s′) (x .1) ∙ at-i ∙ sym (x .0) | inr x ↦ at-o p (λ e. let z : p < i = E .before j p x in omega arith) ∙ E .flats j p x ];
+          before = λ j p x. elim (down j p x) [ inl x ↦ omega arith | inr x ↦ omega (arith, E .before j p x) ];
           covered = λ p x. by-cases (ℕ-discrete p i)
               (λ e. inr (k, subst (λ m. T (ledger (s′ .log) k m)) (sym e) here))
               (λ d. elim (E .covered p (omega arith)) [ inl y ↦ inl y | inr y ↦ inr (y .0, up (y .0) p (y .1)) ]);
-          never = λ j p x. never′ j p (down j p x);
+          never = λ j p x y. elim (down j p x) [ inl x ↦ here-held (subst Gone (x .1) y) | inr x ↦ E .never j p x y ];
           lit = λ p x e. by-cases (ℕ-discrete p i)
               (λ z. zero-keyed (sym at-i ∙ sym (ap (label s′) z) ∙ e))
               (λ z. E .lit p (omega arith) (sym (at-o p z) ∙ e));
-          free = λ j p y x. free′ j p y (down j p x);
+          free = λ j p y x. elim (down j p x) [ inl x ↦ omega (arith, A .k-next) | inr x ↦ E .free j p (omega (arith, A .next-up)) x ];
           room = A .next-room;
           some = omega (arith, E .some, A .next-up);
           roots = two k (λ j. cluster s′ j .mergedInto ≡ 0) (A .k-root) (λ j n. ap (λ c. c .mergedInto) (A .other j n) ∙ E .roots j);
@@ -237,22 +229,6 @@ module _ {image : List ℕ} {size : ℕ} {Gone : ℕ → Type 0} {Keyed : Type 0
           short = omega (arith, E .short, A .one-slot);
           few = λ N l. omega (arith, E .few N (omega (arith, A .grows)), countOf-more (standing s′) (standing s) k (λ j d. subst (λ c. T (ltb 0 (area c)) → T (standing s j)) (sym (A .other j d)) (λ x. x)) N);
         }
-          where
-            flat′ : (j p : ℕ) → ((j ≡ k) × (p ≡ i)) ⊎ T (ledger (s .log) j p) → label s′ p ≡ j
-            flat′ j p (inl x) = ap (label s′) (x .1) ∙ at-i ∙ sym (x .0)
-            flat′ j p (inr x) = at-o p (λ e. let z : p < i = E .before j p x in omega arith) ∙ E .flats j p x
-
-            before′ : (j p : ℕ) → ((j ≡ k) × (p ≡ i)) ⊎ T (ledger (s .log) j p) → p < suc i
-            before′ j p (inl x) = omega arith
-            before′ j p (inr x) = omega (arith, E .before j p x)
-
-            never′ : (j p : ℕ) → ((j ≡ k) × (p ≡ i)) ⊎ T (ledger (s .log) j p) → Gone p → ⊥
-            never′ j p (inl x) y = here-held (subst Gone (x .1) y)
-            never′ j p (inr x) y = E .never j p x y
-
-            free′ : (j p : ℕ) → s′ .next ≤ j → ((j ≡ k) × (p ≡ i)) ⊎ T (ledger (s .log) j p) → ⊥
-            free′ j p y (inl x) = omega (arith, A .k-next)
-            free′ j p y (inr x) = E .free j p (omega (arith, A .next-up)) x
 
   -- ---- the two ways to add a pixel
 
@@ -335,11 +311,11 @@ module _ {image : List ℕ} {size : ℕ} {Gone : ℕ → Type 0} {Keyed : Type 0
     combine-early = record {
       basic = plain-basic (E .basic) f t n (flats-apart E f t n) t-slot J (ap (λ c. c .pixels) (combine-f f t s n f-slot t-slot)) (ap (λ c. c .sum) (combine-f f t s n f-slot t-slot));
       flats = λ k p x. flat′ k p (plain-down g f t n k p x .0) (plain-down g f t n k p x .1);
-      before = λ k p x. before′ k p (plain-down g f t n k p x .1);
+      before = λ k p x. elim (plain-down g f t n k p x .1) [ inl y ↦ E .before f p (y .1) | inr y ↦ E .before k p y ];
       covered = λ p x. cover p (E .covered p x);
-      never = λ k p x. never′ k p (plain-down g f t n k p x .1);
-      lit = λ p x e. lit′ p x e (T-dec (g f p));
-      free = λ k p y x. free′ k p y (plain-down g f t n k p x .1);
+      never = λ k p x. elim (plain-down g f t n k p x .1) [ inl y ↦ E .never f p (y .1) | inr y ↦ E .never k p y ];
+      lit = λ p x e. elim (T-dec (g f p)) [ yes z ↦ t-keyed (sym (lab-from (E .basic) f t J p z) ∙ e) | no z ↦ E .lit p x (sym (lab-other (E .basic) f t J p z) ∙ e) ];
+      free = λ k p z x. elim (plain-down g f t n k p x .1) [ inl y ↦ omega arith | inr y ↦ E .free k p z y ];
       room = omega (arith, E .room, J .table);
       some = E .some;
       roots = three f t (λ k. cluster (combine f t s) k .mergedInto ≡ 0) (ap (λ c. c .mergedInto) (combine-f f t s n f-slot t-slot) ∙ E .roots f) (J .t-merged ∙ E .roots t)
@@ -385,27 +361,11 @@ module _ {image : List ℕ} {size : ℕ} {Gone : ℕ → Type 0} {Keyed : Type 0
         flat′ k p d (inl y) = lab-from (E .basic) f t J p (y .1) ∙ sym (y .0)
         flat′ k p d (inr y) = lab-other (E .basic) f t J p (λ z. d (sym (E .flats k p y) ∙ E .flats f p z)) ∙ E .flats k p y
 
-        before′ : (k p : ℕ) → ((k ≡ t) × T (g f p)) ⊎ T (g k p) → p < i
-        before′ k p (inl y) = E .before f p (y .1)
-        before′ k p (inr y) = E .before k p y
-
         cover : (p : ℕ) → Gone p ⊎ ((k : ℕ) × T (g k p)) → Gone p ⊎ ((k : ℕ) × T (enter (plain f t) g k p))
         cover p (inl y) = inl y
         cover p (inr y) = inr (by-cases (ℕ-discrete (y .0) f)
             (λ e. (t, plain-to g f t n p (subst (λ m. T (g m p)) e (y .1))))
             (λ d. (y .0, plain-up g f t n (y .0) p d (y .1))))
-
-        never′ : (k p : ℕ) → ((k ≡ t) × T (g f p)) ⊎ T (g k p) → Gone p → ⊥
-        never′ k p (inl y) = E .never f p (y .1)
-        never′ k p (inr y) = E .never k p y
-
-        lit′ : (p : ℕ) → p < i → label (combine f t s) p ≡ 0 → Dec (T (g f p)) → Keyed
-        lit′ p x e (yes z) = t-keyed (sym (lab-from (E .basic) f t J p z) ∙ e)
-        lit′ p x e (no z) = E .lit p x (sym (lab-other (E .basic) f t J p z) ∙ e)
-
-        free′ : (k p : ℕ) → s .next ≤ k → ((k ≡ t) × T (g f p)) ⊎ T (g k p) → ⊥
-        free′ k p z (inl y) = omega arith
-        free′ k p z (inr y) = E .free k p z y
 
   -- next falls to l, which holds nothing
   pub lower-early : (o : RunnerConfig) (w i l u : ℕ) (s : State) → Early image size Gone Keyed i s → l ≢ u → u < s .next → ((p : ℕ) → T (ledger (s .log) l p) → ⊥)

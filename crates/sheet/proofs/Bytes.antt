@@ -44,11 +44,7 @@ sets-whole l xs e = sets-eq xs l 0 (omega arith) ∙ ap (λ r. xs ++ r) (drop-of
 -- ---- numbers that take more than two bytes
 
 not-leb : (x a : ℕ) → not (leb x a) ≡ ltb a x
-not-leb x a = go (leb x a) refl
-  where
-    go : (b : Bool) → leb x a ≡ b → not b ≡ ltb a x
-    go true e = sym (le-ltb a x (leb-true x a e))
-    go false e = sym (lt-ltb a x (leb-false x a e))
+not-leb x a = elim (leb x a) as (λ b. leb x a ≡ b → not b ≡ ltb a x) [ true ↦ λ e. sym (le-ltb a x (leb-true x a e)) | false ↦ λ e. sym (lt-ltb a x (leb-false x a e)) ] refl
 
 large-append : (xs ys : List ℕ) → isLarge (xs ++ ys) ≡ isLarge xs || isLarge ys
 unfolding isLarge
