@@ -171,7 +171,8 @@ three f t P a b c k = pick (ℕ-discrete k f) (ℕ-discrete k t)
     pick (no d) (no e) = c k d e
 
 -- what holds of every cluster, and of what becomes of f and t, holds after a merge
-pub moved-every : {f t : ℕ} {s s′ : State} {c d : Cluster} → Moved f t s s′ → cluster s′ f ≡ c → cluster s′ t ≡ d → (P : Cluster → Type 0) → P c → P d → ((k : ℕ) → P (cluster s k)) → (k : ℕ) → P (cluster s′ k)
+pub moved-every : {f t : ℕ} {s s′ : State} {c d : Cluster} → Moved f t s s′ → cluster s′ f ≡ c → cluster s′ t ≡ d
+    → (P : Cluster → Type 0) → P c → P d → ((k : ℕ) → P (cluster s k)) → (k : ℕ) → P (cluster s′ k)
 moved-every {f} {t} {s′ = s′} M from to P a b old = three f t (λ k. P (cluster s′ k)) (subst P (sym from) a) (subst P (sym to) b) (λ k m n. subst P (sym (M .other k m n)) (old k))
 
 -- what the ledger says of a list

@@ -95,7 +95,8 @@ module _ {image : List ℕ} {size : ℕ} where
 
     pub deepen-listed : (hollow : Bool) → Listed (deepen hollow k t s)
     unfolding deepen mergedTo
-    deepen-listed hollow = moved-listed (deepen-changes a k s G pos e t N hollow) (deepen-lists a k s G pos e t N hollow) (λ z r. N .0 (sym (ap (λ c. c .mergedInto) (deepen-from a k s G pos e t N hollow)) ∙ r))
+    deepen-listed hollow = moved-listed (deepen-changes a k s G pos e t N hollow) (deepen-lists a k s G pos e t N hollow)
+        (λ z r. N .0 (sym (ap (λ c. c .mergedInto) (deepen-from a k s G pos e t N hollow)) ∙ r))
         (λ j m n z. (z .0, subst (λ g. T (g (z .0))) (deepened-o (ledger (s .log)) k t j n) (z .1)))
 
   module _ (o : RunnerConfig) (w h : ℕ) where

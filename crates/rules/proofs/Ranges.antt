@@ -118,7 +118,8 @@ module _ (image : List ℕ) (bytes : (i : ℕ) → getD image i 0 ≤ 255) where
           table = M .table ∙ I .table;
           rects = every (λ c. OnImage w h (c .rect)) (no-rect w h) (both-rects w h (cluster s t .rect) (cluster s k .rect) (I .rects t) (I .rects k)) (I .rects);
           residues = every (λ c. Fits (w * h) (c .residue)) (I .residues k)
-              (subst (λ c. Fits (w * h) (c .residue)) (merge-to a k s G pos e t N) (residue-fits (merge-going a k s G pos e t N .sound) t (first, plain-to (ledger (s .log)) k t (k≢t a k s G pos e t N) first (stands a k s G pos e))))
+              (subst (λ c. Fits (w * h) (c .residue)) (merge-to a k s G pos e t N)
+              (residue-fits (merge-going a k s G pos e t N .sound) t (first, plain-to (ledger (s .log)) k t (k≢t a k s G pos e t N) first (stands a k s G pos e))))
               (I .residues);
           into = every (λ c. c .mergedInto < n) (I .into k) (I .into t) (I .into);
           depths = every (λ c. c .depth + countOf (rooted (merge k t s)) n ≤ w * h) (fewer k) (fewer t) fewer;
@@ -156,7 +157,8 @@ module _ (image : List ℕ) (bytes : (i : ℕ) → getD image i 0 ≤ 255) where
             M : Moved k t s (deepen b k t s)
             M = deepen-changes a k s G pos e t N b
 
-            every : (P : Cluster → Type 0) → P (mergedTo t (cluster s k)) → P (deeper b k (withCluster (cluster s k) (cluster s t))) → ((j : ℕ) → P (cluster s j)) → (j : ℕ) → P (cluster (deepen b k t s) j)
+            every : (P : Cluster → Type 0) → P (mergedTo t (cluster s k)) → P (deeper b k (withCluster (cluster s k) (cluster s t)))
+                → ((j : ℕ) → P (cluster s j)) → (j : ℕ) → P (cluster (deepen b k t s) j)
             every = moved-every M (deepen-from a k s G pos e t N b) (deepen-to a k s G pos e t N b)
 
             less : countOf (rooted (deepen b k t s)) n < countOf (rooted s) n

@@ -30,7 +30,8 @@ module _ {image : List ℕ} {size : ℕ} {h : Held} {s : State} (B : Basic image
   -- the links go along the list of a cluster that labels its pixels
   pub label-chain : (k : ℕ) → ((p : ℕ) → T (h k p) → label s p ≡ k) → walk (link s) (firstOf (cluster s k .pixels)) (area (cluster s k)) ≡ cluster s k .pixels
   unfolding link
-  label-chain k own = read (link s) (cluster s k .pixels) (once-held B k) (λ p x. ap (λ m. after p (cluster s m .pixels)) (own p (some-held B k p x))) [] (cluster s k .pixels) [] (sym (append-nil (cluster s k .pixels)))
+  label-chain k own =
+      read (link s) (cluster s k .pixels) (once-held B k) (λ p x. ap (λ m. after p (cluster s m .pixels)) (own p (some-held B k p x))) [] (cluster s k .pixels) [] (sym (append-nil (cluster s k .pixels)))
 
   module _ {t₀ ls ks tb es : List ℕ} (R : Rep size s t₀ ls ks tb es) where
     pub rep-labels-length : length ls ≡ size
