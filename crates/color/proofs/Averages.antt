@@ -1,6 +1,6 @@
 -- The answer of `average` for a sum that has an average.
 use mathlib.Core.Path.{_≡_, refl, ap}
-use mathlib.Core.Bool.{Bool, true, false}
+use mathlib.Core.Bool.{true, false}
 use mathlib.Core.Option.{some, none}
 use Prim.Native.Nat.{ℕ}
 use native.Mathlib.Omega.{arith}
@@ -14,11 +14,7 @@ use Rattle.color.specs.Colors.{colorOf, optionOf}
 
 there : (s : ColorSum) → T (hasAverage s) → averageOrNone s ≡ some (average s)
 unfolding averageOrNone
-there s h = pick (hasAverage s) h
-  where
-    pick : (b : Bool) → T b → (if b then some (average s) else none) ≡ some (average s)
-    pick true t = refl
-    pick false t = absurd t
+there s h = elim (hasAverage s) as (λ b. T b → (if b then some (average s) else none) ≡ some (average s)) [ true ↦ λ t. refl | false ↦ λ t. absurd t ] h
 
 -- it is not None
 pub never-none : (s : ColorSum) (o : ColorOrNone) → T (hasAverage s) → o ≡ None → optionOf o ≡ averageOrNone s → ⊥

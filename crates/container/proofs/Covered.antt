@@ -1,6 +1,6 @@
 -- A picture of one colour; and a list of all pixels, which fills the picture when it is painted.
 use mathlib.Core.Path.{_≡_, refl, sym, ap, _∙_, subst}
-use mathlib.Core.Logic.{_≢_}
+use mathlib.Core.Logic.{_≢_, by-cases}
 use mathlib.Core.Bool.{Bool, true}
 use mathlib.Core.List.{List, _∷_}
 use Prim.Native.Nat.{ℕ, zero, suc, _+_, _*_, _/_, _%_, _≤_, _<_}
@@ -48,11 +48,7 @@ abbrev pub Begins : ℕ → Color → List ℕ → Type 0
 Begins n c l = (p : ℕ) → p < n → pixel l p ≡ c
 
 pub begins-more : (c : Color) (n : ℕ) (l : List ℕ) → 4 * n + 3 < length l → Begins n c l → Begins (n + 1) c (paintPixel c n l)
-begins-more c n l h f p b = go (ℕ-discrete p n)
-  where
-    go : Dec (p ≡ n) → pixel (paintPixel c n l) p ≡ c
-    go (yes e) = rw e (pixel-same c n l h)
-    go (no d) = pixel-other c n l p d ∙ f p (omega arith)
+begins-more c n l h f p b = elim (ℕ-discrete p n) [ yes e ↦ rw e (pixel-same c n l h) | no d ↦ pixel-other c n l p d ∙ f p (omega arith) ]
 
 pub begins-all : (c : Color) (size : ℕ) (l : List ℕ) → length l ≡ 4 * size → Begins size c l → l ≡ filled c size
 begins-all c size l e f =
@@ -93,11 +89,9 @@ module _ (size : ℕ) (links : List ℕ) where
   unfolding walk pixels
   rest zero u q e o = absurd (omega arith)
   rest (suc c) zero q e o = absurd e
-  rest (suc c) (suc p) q e o = go (ℕ-discrete q p) (rest c (getD links p 0) q (e .1))
-    where
-      go : Dec (q ≡ p) → (0 < occurs q (pixels (getD links p 0) c) → (d : ℕ) × (d ≤ c) × Leads size links (suc q) d 0) → (d : ℕ) × (d ≤ suc c) × Leads size links (suc q) d 0
-      go (yes z) r = (suc c, omega arith, rw z e)
-      go (no z) r = let s = r (omega (arith, ap bit (eqb-no q p z))) in (s .0, omega (arith, s .1), s .2)
+  rest (suc c) (suc p) q e o = by-cases (ℕ-discrete q p)
+      (λ z. (suc c, omega arith, rw z e))
+      (λ z. let s = rest c (getD links p 0) q (e .1) (omega (arith, ap bit (eqb-no q p z))) in (s .0, omega (arith, s .1), s .2))
 
   -- so no pixel stands twice: the list names as many pixels as it is long
   many : (c u : ℕ) → Leads size links u c 0 → c ≤ countOf (named (pixels u c)) size

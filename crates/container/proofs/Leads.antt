@@ -1,6 +1,5 @@
 -- Stretches of a list along the links, put together and read.
 use mathlib.Core.Path.{_≡_, refl, sym, ap}
-use mathlib.Core.Bool.{Bool, true, false, _&&_}
 use mathlib.Core.List.{List, _∷_, _++_}
 use Prim.Native.Nat.{ℕ, zero, suc, _+_, _-_, _≤_, _<_}
 use native.Mathlib.Nat.{not-suc-le-zero}
@@ -10,6 +9,7 @@ use lib.Dec.{T, ltb, lt→ltb, ltb→lt}
 use lib.ListN.{getD}
 use Rattle.rules.specs.Layout.{walk}
 use Rattle.rules.specs.Paint.{reads}
+use Rattle.rules.proofs.Facts.{T-and, T-both}
 use Rattle.container.specs.Leads.{Leads}
 
 none-add : (d : ℕ) → 0 + d ≡ d
@@ -17,14 +17,6 @@ none-add d = omega arith
 
 suc-add : (c d : ℕ) → suc c + d ≡ suc (c + d)
 suc-add c d = omega arith
-
-both : (x y : Bool) → T x → T y → T (x && y)
-both true y a b = b
-both false y a b = a
-
-split : (x y : Bool) → T (x && y) → T x × T y
-split true y t = (tt, t)
-split false y t = absurd t
 
 module _ (size : ℕ) (links : List ℕ) where
   -- one stretch after another
@@ -42,14 +34,14 @@ module _ (size : ℕ) (links : List ℕ) where
   pub leads-reads : (c d u v : ℕ) → Leads size links u c v → T (reads size links v d) → T (reads size links u (c + d))
   leads-reads zero d u v e r = rw (none-add d, e) r
   leads-reads (suc c) d zero v e r = absurd e
-  leads-reads (suc c) d (suc p) v e r = rw (suc-add c d) (both (ltb p size) _ (lt→ltb p size (e .0)) (leads-reads c d (getD links p 0) v (e .1) r))
+  leads-reads (suc c) d (suc p) v e r = rw (suc-add c d) (T-and (ltb p size) _ (lt→ltb p size (e .0)) (leads-reads c d (getD links p 0) v (e .1) r))
 
   -- what is read leads somewhere
   pub reads-leads : (c d u : ℕ) → T (reads size links u (c + d)) → (v : ℕ) × Leads size links u c v × T (reads size links v d)
   reads-leads zero d u r = (u, refl, rw (none-add d) at r)
   reads-leads (suc c) d zero r = absurd (rw (suc-add c d) at r)
   reads-leads (suc c) d (suc p) r =
-      let s = split (ltb p size) _ (rw (suc-add c d) at r) in
+      let s = T-both (ltb p size) _ (rw (suc-add c d) at r) in
       let q = reads-leads c d (getD links p 0) (s .1) in
       (q .0, (ltb→lt p size (s .0), q .1), q .2)
 

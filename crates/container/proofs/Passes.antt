@@ -66,11 +66,7 @@ module _ (size : ℕ) (links : List ℕ) where
   -- one entry more
   pub pass-more : (table outputs : List ℕ) (m left : ℕ) → ListPasses size links table (getD outputs (left - 1) 0)
       → PassFrom size links table outputs m left → PassFrom size links table outputs m (left - 1)
-  pass-more table outputs m left h f i l b = by (ℕ-discrete i (left - 1))
-    where
-      by : Dec (i ≡ left - 1) → ListPasses size links table (getD outputs i 0)
-      by (yes e) = rw e h
-      by (no d) = f i (omega arith) b
+  pass-more table outputs m left h f i l b = elim (ℕ-discrete i (left - 1)) [ yes e ↦ rw e h | no d ↦ f i (omega arith) b ]
 
 -- a slot that passes both answers 0
 entry-zero : (size n : ℕ) (links table : List ℕ) (k : ℕ) → NumbersPass size n table k → ListPasses size links table k → entryAnswer size n links table k ≡ 0

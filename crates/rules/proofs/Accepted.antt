@@ -2,15 +2,15 @@
 use mathlib.Core.Path.{_≡_, refl, sym, _∙_, subst}
 use mathlib.Core.Bool.{Bool, true, false, not, _||_}
 use mathlib.Core.List.{List, [], _∷_, _++_}
-use Prim.Native.Nat.{ℕ, zero, suc, _+_, _*_, _≤_, _<_}
+use Prim.Native.Nat.{ℕ, zero, suc, _*_, _≤_, _<_}
 use native.Mathlib.Nat.{mul-pos}
 use native.Mathlib.Omega.{arith}
-use lib.Dec.{T, ltb, eqb, nltb→le}
+use borrow.Author.Tests.{eqb-false, eqb-true, ltb-false, not-false}
+use lib.Dec.{T, ltb, eqb}
 use Rattle.rules.specs.Base.{if_then_else_}
 use Rattle.rules.specs.Color.{RunnerConfig}
 use Rattle.rules.specs.Refusals.{Check, when, firstFailed, sizeChecks, notFourEach, runChecks, limit, badShift, tableLength, outputsLength, workLength, runAnswer, runAndPaintAnswer}
 use Rattle.rules.proofs.Facts.{eqb-no}
-use Rattle.rules.proofs.Visits.{eqb-is, eqb-ne}
 
 -- a check whose number is not 0 was passed, and so were the later ones
 pub passed : (number : ℕ) (bad : Bool) (later : ℕ) → (if bad then suc number else later) ≡ 0 → (bad ≡ false) × (later ≡ 0)
@@ -21,15 +21,8 @@ pub neither : (a b : Bool) → a || b ≡ false → (a ≡ false) × (b ≡ fals
 neither true b e = absurd (subst T e tt)
 neither false b e = (refl, e)
 
-pub not-below : (a b : ℕ) → ltb a b ≡ false → b ≤ a
-not-below a b e = nltb→le a b (subst (λ x. T (not x)) (sym e) tt)
-
 pub equal : (a b : ℕ) → not (eqb a b) ≡ false → a ≡ b
-equal a b e = go (eqb a b) refl e
-  where
-    go : (x : Bool) → eqb a b ≡ x → not x ≡ false → a ≡ b
-    go true z y = eqb-is a b z
-    go false z y = absurd (subst T y tt)
+equal a b e = eqb-true a b (not-false (eqb a b) e)
 
 pub record GoodSize (w h : ℕ) : Type 0 where
   pub wide : 0 < w
@@ -42,15 +35,11 @@ good-size w h a b = record {
   wide = pos₀ w (neither (eqb w 0) (eqb h 0) a .0);
   high = pos₀ h (neither (eqb w 0) (eqb h 0) a .1);
   some = mul-pos (pos₀ w (neither (eqb w 0) (eqb h 0) a .0)) (pos₀ h (neither (eqb w 0) (eqb h 0) a .1));
-  small = not-below limit (w * h) b;
+  small = ltb-false limit (w * h) b;
 }
   where
     pos₀ : (x : ℕ) → eqb x 0 ≡ false → 0 < x
-    pos₀ x e = let d = eqb-ne x 0 e in go x d
-      where
-        go : (x : ℕ) → (x ≡ 0 → ⊥) → 0 < x
-        go zero d = absurd (d refl)
-        go (suc x) d = omega arith
+    pos₀ x e = let d = eqb-false x 0 e in omega arith
 
 -- no check has the number 0
 abbrev pub Numbered : List Check → Type 0
@@ -70,7 +59,7 @@ sized w h later = failed-later (sizeChecks w h) later tt
 
 -- an image whose size passes has at most so many pixels
 pub sized-small : (w h : ℕ) → firstFailed (sizeChecks w h) ≡ 0 → w * h ≤ limit
-sized-small w h e = not-below limit (w * h) (passed 2 (ltb limit (w * h)) 0 (passed 1 (eqb w 0 || eqb h 0) _ e .1) .0)
+sized-small w h e = ltb-false limit (w * h) (passed 2 (ltb limit (w * h)) 0 (passed 1 (eqb w 0 || eqb h 0) _ e .1) .0)
 
 -- image, labels, links, table, outputs and work are lengths
 pub record Accepted (o : RunnerConfig) (w h image labels links table outputs work : ℕ) : Type 0 where
@@ -99,11 +88,11 @@ run-accepted o w h image labels links table outputs work e =
       shift = c1 .0;
       size = good-size w h (c2 .0) (c3 .0);
       bytes = equal image (4 * (w * h)) (c4 .0);
-      labels-fit = not-below labels (w * h) (l1 .0);
-      links-fit = not-below links (w * h) (l1 .1);
-      table-fits = not-below table (tableLength (w * h)) (l2 .1);
-      outputs-fit = not-below outputs (outputsLength (w * h)) (l3 .1);
-      work-fits = not-below work (workLength (w * h)) (l4 .1);
+      labels-fit = ltb-false labels (w * h) (l1 .0);
+      links-fit = ltb-false links (w * h) (l1 .1);
+      table-fits = ltb-false table (tableLength (w * h)) (l2 .1);
+      outputs-fit = ltb-false outputs (outputsLength (w * h)) (l3 .1);
+      work-fits = ltb-false work (workLength (w * h)) (l4 .1);
     }
 
 -- run and painting in one call: 6 where `run` alone is accepted

@@ -1,9 +1,9 @@
 -- The ledger and the state after a merge, and what lists, sums and labels have to do with the ledger in both stages.
 use mathlib.Core.Path.{_≡_, refl, sym, ap, ap₂, _∙_, subst, fun-ext}
-use mathlib.Core.Logic.{_≢_, _⊎_, inl, inr}
+use mathlib.Core.Logic.{_≢_, _⊎_, inl, inr, by-cases}
 use mathlib.Core.Bool.{Bool, false, _||_}
 use mathlib.Core.List.{List, [], _++_}
-use Prim.Native.Nat.{ℕ, _+_, _<_}
+use Prim.Native.Nat.{ℕ, _+_, _≤_, _<_}
 use native.Mathlib.Decide.{ℕ-discrete}
 use native.Mathlib.Omega.{arith}
 use lib.Dec.{T}
@@ -13,7 +13,7 @@ use Rattle.rules.specs.Color.{zeroSum, _⊕_}
 use Rattle.rules.specs.State.{State, Cluster, newCluster, cluster, label, relabel, withCluster, emptied, withResidue, mergedTo, deeper, combine, merge, deepen, plain, deepened}
 use Rattle.rules.specs.Ledger.{Held, enter}
 use Rattle.rules.specs.Claim.{bit, occurs, tally}
-use Rattle.rules.proofs.Facts.{is-false, T-dec, T-or, T-or-l, T-or-r, eqb-yes, eqb-no, bit-or, T-bit, occurs-append, relabel-other, relabel-in, length-relabel, tally-or, tally-none}
+use Rattle.rules.proofs.Facts.{is-false, T-dec, T-or, T-or-l, T-or-r, eqb-yes, eqb-no, bit-or, bit-T, T-bit, occurs-append, relabel-other, relabel-in, length-relabel, tally-or, tally-none}
 
 -- ---- the ledger after a merge
 
@@ -32,52 +32,42 @@ deepened-t h f t = fun-ext λ q. rw (eqb-yes t t refl)
 pub deepened-o : (h : Held) (f t j : ℕ) → j ≢ t → enter (deepened f t) h j ≡ h j
 deepened-o h f t j m = fun-ext λ q. rw (eqb-no j t m)
 
+-- what t has after a merge of f into it was t's or f's
+split-t : (g : Held) (f t j q : ℕ) → j ≡ t → T (g t q || g f q) → ((j ≡ t) × T (g f q)) ⊎ T (g j q)
+split-t g f t j q e x = elim (T-or (g t q) (g f q) x) [ inl y ↦ inr (subst (λ m. T (g m q)) (sym e) y) | inr y ↦ inl (e, y) ]
+
 -- what a plain merge leaves, read both ways
 module _ (g : Held) (f t : ℕ) (n : f ≢ t) where
   pub plain-down : (j q : ℕ) → T (enter (plain f t) g j q) → (j ≢ f) × (((j ≡ t) × T (g f q)) ⊎ T (g j q))
   plain-down j q x = pick (ℕ-discrete j f) (ℕ-discrete j t)
     where
-      side : (j ≡ t) → T (g t q) ⊎ T (g f q) → ((j ≡ t) × T (g f q)) ⊎ T (g j q)
-      side e (inl y) = inr (subst (λ m. T (g m q)) (sym e) y)
-      side e (inr y) = inl (e, y)
-
       pick : Dec (j ≡ f) → Dec (j ≡ t) → (j ≢ f) × (((j ≡ t) × T (g f q)) ⊎ T (g j q))
       pick (yes e) d = absurd (subst (λ u. T (u q)) (plain-f g f t n) (subst (λ m. T (enter (plain f t) g m q)) e x))
-      pick (no d) (yes e) = (d, side e (T-or (g t q) (g f q) (subst (λ u. T (u q)) (plain-t g f t) (subst (λ m. T (enter (plain f t) g m q)) e x))))
+      pick (no d) (yes e) = (d, split-t g f t j q e (subst (λ u. T (u q)) (plain-t g f t) (subst (λ m. T (enter (plain f t) g m q)) e x)))
       pick (no d) (no e) = (d, inr (subst (λ u. T (u q)) (plain-o g f t j d e) x))
 
   pub plain-to : (q : ℕ) → T (g f q) → T (enter (plain f t) g t q)
   plain-to q x = subst (λ u. T (u q)) (sym (plain-t g f t)) (T-or-r (g t q) (g f q) x)
 
   pub plain-up : (j q : ℕ) → j ≢ f → T (g j q) → T (enter (plain f t) g j q)
-  plain-up j q d x = pick (ℕ-discrete j t)
-    where
-      pick : Dec (j ≡ t) → T (enter (plain f t) g j q)
-      pick (yes e) = subst (λ m. T (enter (plain f t) g m q)) (sym e) (subst (λ u. T (u q)) (sym (plain-t g f t)) (T-or-l (g t q) (g f q) (subst (λ m. T (g m q)) e x)))
-      pick (no e) = subst (λ u. T (u q)) (sym (plain-o g f t j d e)) x
+  plain-up j q d x = by-cases (ℕ-discrete j t)
+      (λ e. subst (λ m. T (enter (plain f t) g m q)) (sym e) (subst (λ u. T (u q)) (sym (plain-t g f t)) (T-or-l (g t q) (g f q) (subst (λ m. T (g m q)) e x))))
+      (λ e. subst (λ u. T (u q)) (sym (plain-o g f t j d e)) x)
 
 -- and a deepening merge
 module _ (g : Held) (f t : ℕ) where
   pub deepened-down : (j q : ℕ) → T (enter (deepened f t) g j q) → ((j ≡ t) × T (g f q)) ⊎ T (g j q)
-  deepened-down j q x = pick (ℕ-discrete j t)
-    where
-      side : (j ≡ t) → T (g t q) ⊎ T (g f q) → ((j ≡ t) × T (g f q)) ⊎ T (g j q)
-      side e (inl y) = inr (subst (λ m. T (g m q)) (sym e) y)
-      side e (inr y) = inl (e, y)
-
-      pick : Dec (j ≡ t) → ((j ≡ t) × T (g f q)) ⊎ T (g j q)
-      pick (yes e) = side e (T-or (g t q) (g f q) (subst (λ u. T (u q)) (deepened-t g f t) (subst (λ m. T (enter (deepened f t) g m q)) e x)))
-      pick (no e) = inr (subst (λ u. T (u q)) (deepened-o g f t j e) x)
+  deepened-down j q x = by-cases (ℕ-discrete j t)
+      (λ e. split-t g f t j q e (subst (λ u. T (u q)) (deepened-t g f t) (subst (λ m. T (enter (deepened f t) g m q)) e x)))
+      (λ e. inr (subst (λ u. T (u q)) (deepened-o g f t j e) x))
 
   pub deepened-to : (q : ℕ) → T (g f q) → T (enter (deepened f t) g t q)
   deepened-to q x = subst (λ u. T (u q)) (sym (deepened-t g f t)) (T-or-r (g t q) (g f q) x)
 
   pub deepened-up : (j q : ℕ) → T (g j q) → T (enter (deepened f t) g j q)
-  deepened-up j q x = pick (ℕ-discrete j t)
-    where
-      pick : Dec (j ≡ t) → T (enter (deepened f t) g j q)
-      pick (yes e) = subst (λ m. T (enter (deepened f t) g m q)) (sym e) (subst (λ u. T (u q)) (sym (deepened-t g f t)) (T-or-l (g t q) (g f q) (subst (λ m. T (g m q)) e x)))
-      pick (no e) = subst (λ u. T (u q)) (sym (deepened-o g f t j e)) x
+  deepened-up j q x = by-cases (ℕ-discrete j t)
+      (λ e. subst (λ m. T (enter (deepened f t) g m q)) (sym e) (subst (λ u. T (u q)) (sym (deepened-t g f t)) (T-or-l (g t q) (g f q) (subst (λ m. T (g m q)) e x))))
+      (λ e. subst (λ u. T (u q)) (sym (deepened-o g f t j e)) x)
 
 -- ---- the state after a merge, of either kind
 
@@ -180,17 +170,37 @@ three f t P a b c k = pick (ℕ-discrete k f) (ℕ-discrete k t)
     pick (no d) (yes e) = subst P (sym e) b
     pick (no d) (no e) = c k d e
 
-module _ {image : List ℕ} {size : ℕ} {h : Held} {s s′ : State} (S : Basic image size h s) (f t : ℕ) (n : f ≢ t)
-    (apart : (p : ℕ) → T (h t p) → T (h f p) → ⊥) (ht : t < length (s .clusters)) (M : Moved f t s s′) where
+-- what holds of every cluster, and of what becomes of f and t, holds after a merge
+pub moved-every : {f t : ℕ} {s s′ : State} {c d : Cluster} → Moved f t s s′ → cluster s′ f ≡ c → cluster s′ t ≡ d
+    → (P : Cluster → Type 0) → P c → P d → ((k : ℕ) → P (cluster s k)) → (k : ℕ) → P (cluster s′ k)
+moved-every {f} {t} {s′ = s′} M from to P a b old = three f t (λ k. P (cluster s′ k)) (subst P (sym from) a) (subst P (sym to) b) (λ k m n. subst P (sym (M .other k m n)) (old k))
+
+-- what the ledger says of a list
+module _ {image : List ℕ} {size : ℕ} {h : Held} {s : State} (S : Basic image size h s) (k p : ℕ) where
+  pub held-some : T (h k p) → occurs p (cluster s k .pixels) ≡ 1
+  held-some x = S .lists k p ∙ T-bit (h k p) x
+
+  pub held-none : (T (h k p) → ⊥) → occurs p (cluster s k .pixels) ≡ 0
+  held-none x = S .lists k p ∙ ap bit (is-false (h k p) x)
+
+  -- and a list of the ledger
+  pub some-held : occurs p (cluster s k .pixels) ≢ 0 → T (h k p)
+  some-held d = bit-T (h k p) (λ z. d (S .lists k p ∙ z))
+
+  pub once-held : occurs p (cluster s k .pixels) ≤ 1
+  once-held = by-cases (T-dec (h k p)) (λ x. omega (arith, held-some x)) (λ x. omega (arith, held-none x))
+
+-- the labels after a merge
+module _ {image : List ℕ} {size : ℕ} {h : Held} {s s′ : State} (S : Basic image size h s) (f t : ℕ) (M : Moved f t s s′) where
   pub lab-from : (q : ℕ) → T (h f q) → label s′ q ≡ t
   lab-from q x =
-      ap (λ l. getD l q 0) (M .labels) ∙ relabel-in t q (cluster s f .pixels) (s .labels) (S .places f q x)
-      (λ e. let y : bit (h f q) ≡ 1 = T-bit (h f q) x in omega (arith, S .lists f q))
+      ap (λ l. getD l q 0) (M .labels) ∙ relabel-in t q (cluster s f .pixels) (s .labels) (S .places f q x) (λ e. omega (arith, held-some S f q x))
 
   pub lab-other : (q : ℕ) → (T (h f q) → ⊥) → label s′ q ≡ label s q
-  lab-other q x =
-      ap (λ l. getD l q 0) (M .labels) ∙ relabel-other t q (cluster s f .pixels) (s .labels) (S .lists f q ∙ ap bit (is-false (h f q) x))
+  lab-other q x = ap (λ l. getD l q 0) (M .labels) ∙ relabel-other t q (cluster s f .pixels) (s .labels) (held-none S f q x)
 
+module _ {image : List ℕ} {size : ℕ} {h : Held} {s s′ : State} (S : Basic image size h s) (f t : ℕ) (n : f ≢ t)
+    (apart : (p : ℕ) → T (h t p) → T (h f p) → ⊥) (ht : t < length (s .clusters)) (M : Moved f t s s′) where
   t-lists : (p : ℕ) → occurs p (cluster s′ t .pixels) ≡ bit (h t p || h f p)
   t-lists p =
       ap (occurs p) (M .t-pixels) ∙ occurs-append p (cluster s t .pixels) (cluster s f .pixels)
@@ -205,30 +215,22 @@ module _ {image : List ℕ} {size : ℕ} {h : Held} {s s′ : State} (S : Basic 
   -- h′: the ledger after the merge
   module _ (h′ : Held) (down : (j q : ℕ) → T (h′ j q) → ((j ≡ t) × T (h f q)) ⊎ T (h j q)) where
     new-places : (k p : ℕ) → T (h′ k p) → p < length (s′ .labels)
-    new-places k p x = pick (down k p x)
+    new-places k p x = elim (down k p x) [ inl y ↦ rw same (S .places f p (y .1)) | inr y ↦ rw same (S .places k p y) ]
       where
         same : length (s′ .labels) ≡ length (s .labels)
         same = ap length (M .labels) ∙ length-relabel t (cluster s f .pixels) (s .labels)
 
-        pick : ((k ≡ t) × T (h f p)) ⊎ T (h k p) → p < length (s′ .labels)
-        pick (inl y) = rw same (S .places f p (y .1))
-        pick (inr y) = rw same (S .places k p y)
-
     new-slots : (k p : ℕ) → T (h′ k p) → k < length (s′ .clusters)
-    new-slots k p x = pick (down k p x)
-      where
-        pick : ((k ≡ t) × T (h f p)) ⊎ T (h k p) → k < length (s′ .clusters)
-        pick (inl y) = rw (M .table, y .0) ht
-        pick (inr y) = rw (M .table) (S .slots k p y)
+    new-slots k p x = elim (down k p x) [ inl y ↦ rw (M .table, y .0) ht | inr y ↦ rw (M .table) (S .slots k p y) ]
 
     new-shown : (to : (q : ℕ) → T (h f q) → T (h′ t q)) → (up : (j q : ℕ) → j ≢ f → T (h j q) → T (h′ j q))
         → (p : ℕ) → label s′ p ≢ 0 → T (h′ (label s′ p) p)
     new-shown to up p x = pick (T-dec (h f p))
       where
         pick : Dec (T (h f p)) → T (h′ (label s′ p) p)
-        pick (yes z) = subst (λ m. T (h′ m p)) (sym (lab-from p z)) (to p z)
+        pick (yes z) = subst (λ m. T (h′ m p)) (sym (lab-from S f t M p z)) (to p z)
         pick (no z) =
-            let e : label s′ p ≡ label s p = lab-other p z in
+            let e : label s′ p ≡ label s p = lab-other S f t M p z in
             let y : T (h (label s p) p) = S .shown p (λ v. x (e ∙ v)) in
             subst (λ m. T (h′ m p)) (sym e) (up (label s p) p (λ v. z (subst (λ m. T (h m p)) v y)) y)
 

@@ -7,6 +7,7 @@ use mathlib.Core.List.{List, [], _∷_}
 use Prim.Native.Nat.{ℕ, zero, suc, _+_, _*_, _≤_, _<_}
 use native.Mathlib.Decide.{ℕ-discrete}
 use native.Mathlib.Omega.{arith}
+use borrow.Author.Tests.{ltb-true}
 use lib.Dec.{T, eqb, ltb, leb, eqb→eq, eqb-refl, ltb→lt, lt→ltb, leb→le, le→leb}
 use lib.ListN.{length, getD, length-append, length-map}
 use Rattle.rules.specs.Base.{times}
@@ -15,24 +16,12 @@ use Rattle.rules.specs.State.{State, cluster, label, area, emptied, merg
 use Rattle.rules.specs.Stage2.{prepareStage2, visit, pass, passes}
 use Rattle.rules.specs.Run.{stage1, stage2}
 use Rattle.rules.specs.Claim.{countOf}
-use Rattle.rules.proofs.Facts.{standing, countOf-le, countOf-lt, countOf-swap}
-use Rattle.rules.proofs.Basic.{Moved, merge-f, merge-moved, deepen-f, deepen-moved}
-use Rattle.rules.proofs.Visits.{Going, Near, visit-cases, isolated-cases, visit-going, pass-going, times-keep, root, k≢t, k-slot, t-slot, target-root, target-stands}
+use Rattle.rules.proofs.Facts.{T-and, T-both, standing, countOf-le, countOf-lt, countOf-swap}
+use Rattle.rules.proofs.Basic.{Moved}
+use Rattle.rules.proofs.Visits.{Going, Near, visit-cases, isolated-cases, visit-going, pass-going, times-keep, root, target-root, target-stands, merge-changes, deepen-changes, merge-from, deepen-from}
 use Rattle.rules.proofs.Early.{prepareStage2-going, settled}
 use Rattle.rules.proofs.Whole.{early, stage2-passes}
 use Rattle.rules.proofs.Outputs.{area-pos}
-
-pub T-and : (a b : Bool) → T a → T b → T (a && b)
-T-and true b x y = y
-T-and false b x y = x
-
-pub T-fst : (a b : Bool) → T (a && b) → T a
-T-fst true b x = tt
-T-fst false b x = x
-
-pub T-snd : (a b : Bool) → T (a && b) → T b
-T-snd true b x = x
-T-snd false b x = absurd x
 
 -- slot k has pixels and is inside no other
 unfoldable pub rooted : State → ℕ → Bool
@@ -43,7 +32,7 @@ Root s j = (0 < area (cluster s j)) × (cluster s j .mergedInto ≡ 0)
 
 pub root-out : (s : State) (j : ℕ) → T (rooted s j) → Root s j
 unfolding rooted
-root-out s j x = (ltb→lt 0 (area (cluster s j)) (T-fst (standing s j) (eqb (cluster s j .mergedInto) 0) x), eqb→eq (cluster s j .mergedInto) 0 (T-snd (standing s j) (eqb (cluster s j .mergedInto) 0) x))
+root-out s j x = (ltb→lt 0 (area (cluster s j)) (T-both (standing s j) (eqb (cluster s j .mergedInto) 0) x .0), eqb→eq (cluster s j .mergedInto) 0 (T-both (standing s j) (eqb (cluster s j .mergedInto) 0) x .1))
 
 pub root-in : (s : State) (j : ℕ) → Root s j → T (rooted s j)
 unfolding rooted
@@ -60,13 +49,13 @@ Wait a k s j = (a < area (cluster s j)) ⊎ ((area (cluster s j) ≡ a) × (k �
 pub wait-out : (a k : ℕ) (s : State) (j : ℕ) → T (waiting a k s j) → Root s j × Wait a k s j
 unfolding waiting
 wait-out a k s j x = (
-  root-out s j (T-fst (rooted s j) (ltb a (area (cluster s j)) || (eqb (area (cluster s j)) a && leb k j)) x),
-  pick (ltb a (area (cluster s j))) refl (T-snd (rooted s j) (ltb a (area (cluster s j)) || (eqb (area (cluster s j)) a && leb k j)) x),
+  root-out s j (T-both (rooted s j) (ltb a (area (cluster s j)) || (eqb (area (cluster s j)) a && leb k j)) x .0),
+  pick (ltb a (area (cluster s j))) refl (T-both (rooted s j) (ltb a (area (cluster s j)) || (eqb (area (cluster s j)) a && leb k j)) x .1),
 )
   where
     pick : (b : Bool) → ltb a (area (cluster s j)) ≡ b → T (b || (eqb (area (cluster s j)) a && leb k j)) → Wait a k s j
-    pick true e y = inl (ltb→lt a (area (cluster s j)) (subst T (sym e) tt))
-    pick false e y = inr (eqb→eq (area (cluster s j)) a (T-fst (eqb (area (cluster s j)) a) (leb k j) y), leb→le k j (T-snd (eqb (area (cluster s j)) a) (leb k j) y))
+    pick true e y = inl (ltb-true a (area (cluster s j)) e)
+    pick false e y = inr (eqb→eq (area (cluster s j)) a (T-both (eqb (area (cluster s j)) a) (leb k j) y .0), leb→le k j (T-both (eqb (area (cluster s j)) a) (leb k j) y .1))
 
 pub wait-in : (a k : ℕ) (s : State) (j : ℕ) → Root s j → Wait a k s j → T (waiting a k s j)
 unfolding waiting
@@ -147,34 +136,38 @@ module _ {cap n : ℕ} where
       pub fewer-waits : countOf (waiting a (suc k) s′) n ≤ countOf (waiting a k s) n
       fewer-waits = countOf-swap (waiting a (suc k) s′) (waiting a k s) k t waited (λ x. gone (wait-out a (suc k) s′ k x .0)) here n fits
 
-    merge-bounded : (t : ℕ) → Near s (label s (getD (cluster s k .pixels) 0 0)) t → Bounded cap n a (suc k) (merge k t s)
-    unfolding merge emptied
-    merge-bounded t N = record { total = omega (arith, B .total, fewer-roots t N M gone (M .table), fewer-waits t N M gone (M .table)); table = M .table ∙ B .table }
+    -- a merge leaves fewer roots, and no more to wait
+    pub merge-fewer : (t : ℕ) → Near s (label s (getD (cluster s k .pixels) 0 0)) t
+        → (countOf (rooted (merge k t s)) n < countOf (rooted s) n) × (countOf (waiting a (suc k) (merge k t s)) n ≤ countOf (waiting a k s) n)
+    unfolding emptied
+    merge-fewer t N = (fewer-roots t N M gone (M .table), fewer-waits t N M gone (M .table))
       where
-        d : k ≢ t
-        d = k≢t a k s G pos e t N
-
         M : Moved k t s (merge k t s)
-        M = merge-moved k t s d (k-slot a k s G pos e t N) (t-slot a k s G pos e t N)
+        M = merge-changes a k s G pos e t N
 
         gone : Root (merge k t s) k → ⊥
-        gone r = omega (arith, r .0, ap area (merge-f k t s d (k-slot a k s G pos e t N) (t-slot a k s G pos e t N)))
+        gone r = omega (arith, r .0, ap area (merge-from a k s G pos e t N))
+
+    pub deepen-fewer : (t : ℕ) → Near s (label s (getD (cluster s k .pixels) 0 0)) t → (b : Bool)
+        → (countOf (rooted (deepen b k t s)) n < countOf (rooted s) n) × (countOf (waiting a (suc k) (deepen b k t s)) n ≤ countOf (waiting a k s) n)
+    unfolding mergedTo
+    deepen-fewer t N b = (fewer-roots t N M gone (M .table), fewer-waits t N M gone (M .table))
+      where
+        M : Moved k t s (deepen b k t s)
+        M = deepen-changes a k s G pos e t N b
+
+        gone : Root (deepen b k t s) k → ⊥
+        gone r = N .0 (sym (ap (λ c. c .mergedInto) (deepen-from a k s G pos e t N b)) ∙ r .1)
+
+    merge-bounded : (t : ℕ) → Near s (label s (getD (cluster s k .pixels) 0 0)) t → Bounded cap n a (suc k) (merge k t s)
+    unfolding merge
+    merge-bounded t N = let l = merge-fewer t N in record { total = omega (arith, B .total, l .0, l .1); table = merge-changes a k s G pos e t N .table ∙ B .table }
 
     deepen-bounded : (t : ℕ) → Near s (label s (getD (cluster s k .pixels) 0 0)) t → (hollow : Bool) → Bounded cap n a (suc k) (deepen hollow k t s)
-    unfolding deepen mergedTo
-    deepen-bounded t N hollow = record {
-      total = omega (arith, B .total, fewer-roots t N M gone (M .table), fewer-waits t N M gone (M .table), length-append (s .outputs) (k ∷ []));
-      table = M .table ∙ B .table;
-    }
-      where
-        d : k ≢ t
-        d = k≢t a k s G pos e t N
-
-        M : Moved k t s (deepen hollow k t s)
-        M = deepen-moved k t s d (k-slot a k s G pos e t N) (t-slot a k s G pos e t N) hollow
-
-        gone : Root (deepen hollow k t s) k → ⊥
-        gone r = N .0 (sym (ap (λ c. c .mergedInto) (deepen-f k t s d (k-slot a k s G pos e t N) (t-slot a k s G pos e t N) hollow)) ∙ r .1)
+    unfolding deepen
+    deepen-bounded t N hollow =
+        let l = deepen-fewer t N hollow in
+        record { total = omega (arith, B .total, l .0, l .1, length-append (s .outputs) (k ∷ [])); table = deepen-changes a k s G pos e t N hollow .table ∙ B .table }
 
   module _ {image : List ℕ} {size : ℕ} (o : RunnerConfig) (w h : ℕ) where
     visit-bounded : (a k : ℕ) (s : State) → Going image size a k s → Bounded cap n a k s → 0 < a → k < n → Bounded cap n a (suc k) (visit o w h a k s)

@@ -1,11 +1,11 @@
 -- Run, then painting, with nobody writing in between: no check refuses the painting.
-use mathlib.Core.Path.{_≡_, refl, sym, ap, _∙_}
-use mathlib.Core.Bool.{false}
+use mathlib.Core.Path.{_≡_, sym, ap, _∙_}
 use mathlib.Core.List.{List}
 use Prim.Native.Nat.{ℕ, _+_, _*_, _≤_, _<_}
 use native.Mathlib.Nat.{mul-le-mul-left}
 use native.Mathlib.Omega.{arith}
-use lib.Dec.{ltb, ltb→lt}
+use borrow.Author.Tests.{le-ltb}
+use lib.Dec.{ltb}
 use lib.ListN.{length, getD, length-append, length-drop}
 use Rattle.rules.specs.Color.{RunnerConfig}
 use Rattle.rules.specs.State.{cluster}
@@ -15,7 +15,7 @@ use Rattle.rules.specs.Picture.{paint}
 use Rattle.rules.specs.Paint.{Painted}
 use Rattle.rules.specs.Refusals.{limit, tableLength, outputsLength, paintAnswer}
 use Rattle.rules.specs.Calls.{Buffers, Ran, over, leaves, accepted, runNumber, runCall, paintCall}
-use Rattle.rules.proofs.Facts.{is-false, eqb-yes, eqb-no, keep-le}
+use Rattle.rules.proofs.Facts.{eqb-yes, eqb-no, keep-le}
 use Rattle.rules.proofs.Bounds.{outputs-bound}
 use Rattle.rules.proofs.Ranges.{run-ranged}
 use Rattle.rules.proofs.Moments.{run-width}
@@ -26,9 +26,6 @@ use Rattle.rules.proofs.Paint.{run-painting}
 -- what is written over the beginning of a list leaves its length
 pub over-length : (new old : List ℕ) → length new ≤ length old → length (over new old) ≡ length old
 over-length new old l = simp (length-append, length-drop) (omega arith)
-
-not-above : (a b : ℕ) → b ≤ a → ltb a b ≡ false
-not-above a b l = is-false (ltb a b) (λ t. omega (arith, ltb→lt a b t))
 
 pub run-outputs : (o : RunnerConfig) (w h : ℕ) (image : List ℕ) → length (run o w h image .outputs) ≤ 2 * (w * h)
 unfolding run dropEmpty
@@ -43,12 +40,12 @@ paint-passes w h links table outputs picture n m a b c d e f g i j =
     rw (
       eqb-no w 0 (λ z. omega arith),
       eqb-no h 0 (λ z. omega arith),
-      not-above limit (w * h) c,
-      not-above links (w * h) d,
-      not-above table (tableLength (w * h)) e,
-      not-above outputs (outputsLength (w * h)) f,
-      not-above (w * h + 1) n g,
-      not-above (2 * (w * h)) m i,
+      le-ltb limit (w * h) c,
+      le-ltb links (w * h) d,
+      le-ltb table (tableLength (w * h)) e,
+      le-ltb outputs (outputsLength (w * h)) f,
+      le-ltb (w * h + 1) n g,
+      le-ltb (2 * (w * h)) m i,
       eqb-yes picture (4 * (w * h)) j,
     )
 

@@ -1,7 +1,7 @@
 -- The list of every standing cluster is read along the links: a cluster inside another is a stretch of the outer one's list.
 use mathlib.Core.Path.{_≡_, refl, sym, ap, _∙_, subst}
-use mathlib.Core.Logic.{_≢_, _⊎_, inl, inr}
-use mathlib.Core.Bool.{Bool, true, false}
+use mathlib.Core.Logic.{_≢_, _⊎_, inl, inr, by-cases}
+use mathlib.Core.Bool.{Bool}
 use mathlib.Core.List.{List, [], _∷_, _++_, append-assoc, append-nil}
 use Prim.Native.Nat.{ℕ, suc, _+_, _≤_, _<_}
 use native.Mathlib.Decide.{ℕ-discrete}
@@ -12,13 +12,13 @@ use Rattle.rules.specs.State.{State, cluster, label, area, mergedTo, put
 use Rattle.rules.specs.Layout.{after, firstOf, link, walk}
 use Rattle.rules.specs.Ledger.{Held, ledger}
 use Rattle.rules.specs.Claim.{bit, occurs, Stands}
-use Rattle.rules.proofs.Facts.{T-dec, bit-T, eqb-yes, eqb-no, occurs-append}
-use Rattle.rules.proofs.Basic.{Moved, merge-moved, deepen-f, deepen-moved, lab-from, lab-other, plain-down, deepened-down}
+use Rattle.rules.proofs.Facts.{T-dec, eqb-yes, eqb-no, occurs-append}
+use Rattle.rules.proofs.Basic.{Moved, lab-from, lab-other, plain-down, deepened-down, some-held, once-held}
 use Rattle.rules.proofs.Sound.{Sound}
 use Rattle.rules.specs.Stage2.{prepareStage2}
 use Rattle.rules.proofs.Owned.{owned}
 use Rattle.rules.proofs.Early.{Early}
-use Rattle.rules.proofs.Visits.{Going, Near, root, k≢t, k-slot, t-slot, target-root}
+use Rattle.rules.proofs.Visits.{Going, Near, root, k≢t, target-root, merge-changes, deepen-changes, deepen-from}
 
 -- xs is a stretch of ys
 abbrev pub Within : List ℕ → List ℕ → Type 0
@@ -66,7 +66,7 @@ pub record Chained (s : State) : Type 0 where
 module _ {image : List ℕ} {size : ℕ} (s : State) (S : Sound image size (ledger (s .log)) (owned (s .log)) s) (C : Chained s) where
   pub listed : (j : ℕ) → Stands (ledger (s .log)) j → walk (link s) (firstOf (cluster s j .pixels)) (length (cluster s j .pixels)) ≡ cluster s j .pixels
   unfolding link
-  listed j z = read (link s) (cluster s r .pixels) (λ p. once p (ledger (s .log) r p) (S .basic .lists r p)) along (w .0) (cluster s j .pixels) (w .1) (w .2)
+  listed j z = read (link s) (cluster s r .pixels) (once-held (S .basic) r) along (w .0) (cluster s j .pixels) (w .1) (w .2)
     where
       r : ℕ
       r = label s (z .0)
@@ -74,15 +74,10 @@ module _ {image : List ℕ} {size : ℕ} (s : State) (S : Sound image size (ledg
       w : Within (cluster s j .pixels) (cluster s r .pixels)
       w = C .within j (z .0) (z .1)
 
-      once : (p : ℕ) (b : Bool) → occurs p (cluster s r .pixels) ≡ bit b → occurs p (cluster s r .pixels) ≤ 1
-      once p true e = omega arith
-      once p false e = omega arith
-
       along : (p : ℕ) → occurs p (cluster s r .pixels) ≢ 0 → link s p ≡ after p (cluster s r .pixels)
-      along p d = ap (λ m. after p (cluster s m .pixels)) (S .tops r p (bit-T (ledger (s .log) r p) (λ q. d (S .basic .lists r p ∙ q))) (S .labels-top j (z .0) (z .1)))
+      along p d = ap (λ m. after p (cluster s m .pixels)) (S .tops r p (some-held (S .basic) r p d) (S .labels-top j (z .0) (z .1)))
 
-  module _ (f t : ℕ) (n : f ≢ t) (f-root : cluster s f .mergedInto ≡ 0) (t-root : cluster s t .mergedInto ≡ 0) (ht : t < length (s .clusters))
-      (apart : (p : ℕ) → T (ledger (s .log) t p) → T (ledger (s .log) f p) → ⊥) {s′ : State} (M : Moved f t s s′) where
+  module _ (f t : ℕ) (f-root : cluster s f .mergedInto ≡ 0) (t-root : cluster s t .mergedInto ≡ 0) {s′ : State} (M : Moved f t s s′) where
     moved-chained : (down : (j q : ℕ) → T (ledger (s′ .log) j q) → ((j ≡ t) × T (ledger (s .log) f q)) ⊎ T (ledger (s .log) j q))
         → (same : (j q : ℕ) → T (ledger (s′ .log) j q) → j ≢ t → cluster s′ j .pixels ≡ cluster s j .pixels) → Chained s′
     moved-chained down same = record { within = λ j p x. pick j p x (ℕ-discrete j t) (T-dec (ledger (s .log) f p)) (down j p x) }
@@ -91,10 +86,10 @@ module _ {image : List ℕ} {size : ℕ} (s : State) (S : Sound image size (ledg
         h = ledger (s .log)
 
         other : (p : ℕ) → (T (h f p) → ⊥) → label s′ p ≡ label s p
-        other = lab-other (S .basic) f t n apart ht M
+        other = lab-other (S .basic) f t M
 
         from : (p : ℕ) → T (h f p) → label s′ p ≡ t
-        from = lab-from (S .basic) f t n apart ht M
+        from = lab-from (S .basic) f t M
 
         Goal : ℕ → ℕ → Type 0
         Goal j p = Within (cluster s′ j .pixels) (cluster s′ (label s′ p) .pixels)
@@ -130,31 +125,20 @@ put-chained k s C = record { within = C .within }
 
 module _ {image : List ℕ} {size : ℕ} where
   module _ (a k : ℕ) (s : State) (G : Going image size a k s) (C : Chained s) (pos : 0 < a) (e : area (cluster s k) ≡ a) (t : ℕ) (N : Near s (label s (getD (cluster s k .pixels) 0 0)) t) where
-    d : k ≢ t
-    d = k≢t a k s G pos e t N
-
-    apart : (p : ℕ) → T (ledger (s .log) t p) → T (ledger (s .log) k p) → ⊥
-    apart p x y = d (sym (G .sound .tops k p y (root a k s G pos e)) ∙ G .sound .tops t p x (target-root a k s G pos e t N))
-
     pub merge-chained : Chained (merge k t s)
     unfolding merge
-    merge-chained = moved-chained s (G .sound) C k t d (root a k s G pos e) (target-root a k s G pos e t N) (t-slot a k s G pos e t N) apart M
-        (λ j q x. plain-down (ledger (s .log)) k t d j q x .1) (λ j q x z. ap (λ c. c .pixels) (M .other j (plain-down (ledger (s .log)) k t d j q x .0) z))
-      where
-        M : Moved k t s (merge k t s)
-        M = merge-moved k t s d (k-slot a k s G pos e t N) (t-slot a k s G pos e t N)
+    merge-chained =
+        let M = merge-changes a k s G pos e t N in
+        let down = plain-down (ledger (s .log)) k t (k≢t a k s G pos e t N) in
+        moved-chained s (G .sound) C k t (root a k s G pos e) (target-root a k s G pos e t N) M (λ j q x. down j q x .1) (λ j q x z. ap (λ c. c .pixels) (M .other j (down j q x .0) z))
 
     pub deepen-chained : (hollow : Bool) → Chained (deepen hollow k t s)
     unfolding deepen mergedTo
-    deepen-chained hollow = moved-chained s (G .sound) C k t d (root a k s G pos e) (target-root a k s G pos e t N) (t-slot a k s G pos e t N) apart M
-        (deepened-down (ledger (s .log)) k t) (λ j q x z. same j z (ℕ-discrete j k))
-      where
-        M : Moved k t s (deepen hollow k t s)
-        M = deepen-moved k t s d (k-slot a k s G pos e t N) (t-slot a k s G pos e t N) hollow
-
-        same : (j : ℕ) → j ≢ t → Dec (j ≡ k) → cluster (deepen hollow k t s) j .pixels ≡ cluster s j .pixels
-        same j z (yes y) = subst (λ m. cluster (deepen hollow k t s) m .pixels ≡ cluster s m .pixels) (sym y) (ap (λ c. c .pixels) (deepen-f k t s d (k-slot a k s G pos e t N) (t-slot a k s G pos e t N) hollow))
-        same j z (no y) = ap (λ c. c .pixels) (M .other j y z)
+    deepen-chained hollow =
+        let M = deepen-changes a k s G pos e t N hollow in
+        moved-chained s (G .sound) C k t (root a k s G pos e) (target-root a k s G pos e t N) M (deepened-down (ledger (s .log)) k t) (λ j q x z. by-cases (ℕ-discrete j k)
+        (λ y. subst (λ m. cluster (deepen hollow k t s) m .pixels ≡ cluster s m .pixels) (sym y) (ap (λ c. c .pixels) (deepen-from a k s G pos e t N hollow)))
+        (λ y. ap (λ c. c .pixels) (M .other j y z)))
 
 pub prepareStage2-chained : {image : List ℕ} {size : ℕ} {Gone : ℕ → Type 0} {Keyed : Type 0} (i : ℕ) (s : State) → Early image size Gone Keyed i s → Chained (prepareStage2 s)
 unfolding prepareStage2

@@ -3,12 +3,12 @@ use mathlib.Core.Path.{_≡_, refl, sym, ap, _∙_, subst}
 use mathlib.Core.Logic.{_≢_, _⊎_, inl, inr}
 use mathlib.Core.Bool.{Bool, true, false, _||_}
 use mathlib.Core.List.{List, [], _∷_, cons≢nil}
-use mathlib.Core.Option.{Option, some}
-use mathlib.Core.Option.{none as off}
+use mathlib.Core.Option.{Option, some, none as off}
 use Prim.Native.Nat.{ℕ, zero, suc, _+_, _-_, _*_, _%_, _≤_, _<_}
 use native.Mathlib.Decide.{ℕ-discrete, decLt}
 use native.Mathlib.Nat.{mod-eq-of-lt, le-mul-of-pos-right}
 use native.Mathlib.Omega.{arith}
+use borrow.Author.Tests.{eqb-true}
 use lib.Dec.{eqb, ltb, leb, le→leb, lt→ltb}
 use lib.ListN.{getD}
 use Rattle.rules.specs.Base.{if_then_else_, insert}
@@ -18,7 +18,6 @@ use Rattle.rules.specs.State.{State, cluster, label}
 use Rattle.rules.specs.Stage2.{labelsAt, labelsAround, neighbours}
 use Rattle.rules.specs.Claim.{bit, occurs}
 use Rattle.rules.proofs.Facts.{is-true, eqb-no}
-use Rattle.rules.proofs.Visits.{eqb-is}
 
 -- ---- walking over the image
 
@@ -99,8 +98,8 @@ module _ (o : RunnerConfig) (w h : ℕ) (s : State) (own : ℕ) where
       (t .0, (t .1, r .1))
     where
       pick : (b : Bool) → eqb (label s i) 0 ≡ b → (c : Bool) → eqb (label s i) own ≡ c → (if b || c then found else insert (label s i) found) ≡ [] → (found ≡ []) × Own i
-      pick true x c y z = (z, inl (eqb-is (label s i) 0 x))
-      pick false x true y z = (z, inr (eqb-is (label s i) own y))
+      pick true x c y z = (z, inl (eqb-true (label s i) 0 x))
+      pick false x true y z = (z, inr (eqb-true (label s i) own y))
       pick false x false y z = absurd (insert-some (label s i) found z)
 
   around4-none : (ps found : List ℕ) → labelsAround w h (s .labels) own ps found ≡ [] → (found ≡ []) × ((q : ℕ) → occurs q ps ≢ 0 → AllSome Own (sides w h q))

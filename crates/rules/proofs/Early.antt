@@ -1,15 +1,15 @@
 -- Stage 1: what holds after i pixels, and that stage 2 starts from it.
 use mathlib.Core.Path.{_≡_, refl, sym, ap, _∙_, subst, fun-ext}
-use mathlib.Core.Logic.{_≢_, _⊎_, inl, inr}
+use mathlib.Core.Logic.{_≢_, _⊎_, inl, inr, by-cases}
 use mathlib.Core.Bool.{Bool, true, false, not, _&&_, _||_, true≢false}
 use mathlib.Core.List.{List, [], _∷_, _++_}
-use mathlib.Core.Option.{Option, some}
-use mathlib.Core.Option.{none as off}
+use mathlib.Core.Option.{Option, some, none as off}
 use Prim.Native.Nat.{ℕ, zero, suc, _+_, _-_, _/_, _%_, _≤_, _<_}
 use native.Mathlib.Decide.{ℕ-discrete}
 use native.Mathlib.Nat.{mod-le}
 use native.Mathlib.Omega.{arith}
-use lib.Dec.{T, not-T, eqb, ltb, leb, leb→le, ltb→lt, lt→ltb, nltb→le}
+use borrow.Author.Tests.{eqb-true, leb-true, ltb-false, ltb-true}
+use lib.Dec.{T, not-T, eqb, ltb, leb, ltb→lt, lt→ltb, nltb→le}
 use lib.ListN.{length, getD, set, replicate, length-set, length-append, length-replicate, List·getD-append, List·getD-eq-default, List·getD-map, length-map}
 use lib.Seq.{getD-set-same, getD-set-other, getD-append-seam}
 use Rattle.rules.specs.Base.{if_then_else_, times}
@@ -22,11 +22,11 @@ use Rattle.rules.specs.Ledger.{Held, enter, ledger}
 use Rattle.rules.specs.Claim.{bit, occurs, tally, countOf}
 use Rattle.rules.proofs.Owned.{owned}
 use Rattle.rules.proofs.Facts.{standing, countOf-le, countOf-more, countOf-swap, countOf-none}
-use Rattle.rules.proofs.Facts.{is-true, is-false, T-dec, T-or-r, eqb-yes, eqb-no, bit-or, occurs-append, ⊕-comm, tally-or, tally-none, tally-one}
+use Rattle.rules.proofs.Facts.{is-true, is-false, T-dec, T-or-r, eqb-yes, eqb-no, bit-or, occurs-append, ⊕-comm, tally-or, tally-none, tally-one, both-true}
 use Rattle.rules.proofs.Forest.{flat}
 use Rattle.rules.proofs.Basic.{Basic, Moved, three, plain-down, plain-to, plain-up, lab-from, lab-other, plain-basic, combine-f, combine-t, combine-moved}
 use Rattle.rules.proofs.Sound.{Sound}
-use Rattle.rules.proofs.Visits.{Going, eqb-is}
+use Rattle.rules.proofs.Visits.{Going}
 
 -- Gone p: p is a discarded pixel. Keyed: keying is on.
 pub record Early (image : List ℕ) (size : ℕ) (Gone : ℕ → Type 0) (Keyed : Type 0) (i : ℕ) (s : State) : Type 0 where
@@ -67,7 +67,7 @@ module _ (g : Held) (i k : ℕ) where
   added-down j q x = pick (eqb j k) refl (eqb q i) refl x
     where
       pick : (b : Bool) → eqb j k ≡ b → (c : Bool) → eqb q i ≡ c → T ((b && c) || g j q) → ((j ≡ k) × (q ≡ i)) ⊎ T (g j q)
-      pick true e true d y = inl (eqb-is j k e, eqb-is q i d)
+      pick true e true d y = inl (eqb-true j k e, eqb-true q i d)
       pick true e false d y = inr y
       pick false e c d y = inr y
 
@@ -88,11 +88,7 @@ pub record Adds (image : List ℕ) (size : ℕ) (i k : ℕ) (s s′ : State) : T
 
 -- one of two: k, or another
 two : (k : ℕ) (P : ℕ → Type 0) → P k → ((j : ℕ) → j ≢ k → P j) → (j : ℕ) → P j
-two k P a b j = pick (ℕ-discrete j k)
-  where
-    pick : Dec (j ≡ k) → P j
-    pick (yes e) = subst P (sym e) a
-    pick (no d) = b j d
+two k P a b j = elim (ℕ-discrete j k) [ yes e ↦ subst P (sym e) a | no d ↦ b j d ]
 
 -- slot n of a list of at least n, replaced or appended
 pub record Placed (cs cs′ : List Cluster) (n : ℕ) (x : Cluster) : Type 0 where
@@ -104,7 +100,7 @@ pub record Placed (cs cs′ : List Cluster) (n : ℕ) (x : Cluster) : Type 0 whe
 
 pub placed : (cs : List Cluster) (n : ℕ) (x : Cluster) → n ≤ length cs → (c : Bool) → ltb n (length cs) ≡ c → Placed cs (if c then set cs n x else cs ++ (x ∷ [])) n x
 placed cs n x r true e =
-    let l : n < length cs = ltb→lt n (length cs) (subst T (sym e) tt) in
+    let l : n < length cs = ltb-true n (length cs) e in
     record { here = getD-set-same cs n x newCluster l; other = λ j d. getD-set-other cs n j x newCluster d; grows = omega (arith, length-set cs n x); holds = omega (arith, length-set cs n x); short = omega (arith, length-set cs n x) }
 placed cs n x r false e =
     record {
@@ -116,7 +112,7 @@ placed cs n x r false e =
     }
   where
     q : length cs ≡ n
-    q = let l : length cs ≤ n = nltb→le n (length cs) (subst (λ b. T (not b)) (sym e) tt) in omega arith
+    q = let l : length cs ≤ n = ltb-false n (length cs) e in omega arith
 
     m : length (cs ++ (x ∷ [])) ≡ length cs + 1
     m = length-append cs (x ∷ [])
@@ -151,7 +147,7 @@ unfolding left
 left-earlier w i pos = pick (ltb 0 (i % w)) refl
   where
     pick : (b : Bool) → ltb 0 (i % w) ≡ b → Earlier i (if b then some (i - 1) else off)
-    pick true e = let l : 0 < i % w = ltb→lt 0 (i % w) (subst T (sym e) tt) in omega (arith, mod-le i w)
+    pick true e = let l : 0 < i % w = ltb-true 0 (i % w) e in omega (arith, mod-le i w)
     pick false e = tt
 
 up-earlier : (w i : ℕ) → 0 < w → Earlier i (up w i)
@@ -159,7 +155,7 @@ unfolding up
 up-earlier w i pos = pick (leb w i) refl
   where
     pick : (b : Bool) → leb w i ≡ b → Earlier i (if b then some (i - w) else off)
-    pick true e = let l : w ≤ i = leb→le w i (subst T (sym e) tt) in omega arith
+    pick true e = let l : w ≤ i = leb-true w i e in omega arith
     pick false e = tt
 
 module _ {image : List ℕ} {size : ℕ} {Gone : ℕ → Type 0} {Keyed : Type 0} where
@@ -172,7 +168,7 @@ module _ {image : List ℕ} {size : ℕ} {Gone : ℕ → Type 0} {Keyed : Type 0
 
     new : (j : ℕ) → eqb j i ≡ true → T (h k j) → ⊥
     unfolding h
-    new j e x = let z : j < i = E .before k j x in let y : j ≡ i = eqb-is j i e in omega arith
+    new j e x = let z : j < i = E .before k j x in let y : j ≡ i = eqb-true j i e in omega arith
 
     at-i : label s′ i ≡ k
     at-i = ap (λ l. getD l i 0) (A .labels) ∙ getD-set-same (s .labels) i k 0 (omega (arith, E .basic .width))
@@ -193,28 +189,16 @@ module _ {image : List ℕ} {size : ℕ} {Gone : ℕ → Type 0} {Keyed : Type 0
           (A .k-sum ∙ ⊕-comm (tally image (ledger (s .log) k) size) (one (pixel image i)) ∙ ap (λ x. x ⊕ tally image (ledger (s .log) k) size) (sym (tally-one image i size fits))
           ∙ sym (tally-or image (λ q. eqb q i) (ledger (s .log) k) disjoint size) ∙ sym (ap (λ g. tally image g size) (added-k (ledger (s .log)) i k)))
           (λ j n. ap (λ c. c .sum) (A .other j n) ∙ E .basic .sums j ∙ sym (ap (λ g. tally image g size) (added-o (ledger (s .log)) i k j n)));
-      shown = λ p x. show p x (ℕ-discrete p i);
-      places = λ j p x. place′ j p (added-down (ledger (s .log)) i k j p x);
-      slots = λ j p x. slot j p (added-down (ledger (s .log)) i k j p x);
+      shown = λ p x. by-cases (ℕ-discrete p i)
+          (λ e. subst (λ q. T (enter (added i k) (ledger (s .log)) (label s′ q) q)) (sym e) (subst (λ m. T (enter (added i k) (ledger (s .log)) m i)) (sym at-i) (added-here (ledger (s .log)) i k)))
+          (λ d. subst (λ m. T (enter (added i k) (ledger (s .log)) m p)) (sym (at-o p d)) (added-up (ledger (s .log)) i k (label s p) p (E .basic .shown p (λ z. x (at-o p d ∙ z)))));
+      places = λ j p x. elim (added-down (ledger (s .log)) i k j p x) [ inl x ↦ omega (arith, wide) | inr x ↦ omega (arith, wide, E .basic .width, E .basic .places j p x) ];
+      slots = λ j p x. elim (added-down (ledger (s .log)) i k j p x) [ inl x ↦ omega (arith, A .k-next, A .next-room) | inr x ↦ omega (arith, E .basic .slots j p x, A .grows) ];
       width = wide;
     }
       where
-        show : (p : ℕ) → label s′ p ≢ 0 → Dec (p ≡ i) → T (enter (added i k) (ledger (s .log)) (label s′ p) p)
-        show p x (yes e) = subst (λ q. T (enter (added i k) (ledger (s .log)) (label s′ q) q)) (sym e) (subst (λ m. T (enter (added i k) (ledger (s .log)) m i)) (sym at-i) (added-here (ledger (s .log)) i k))
-        show p x (no d) =
-            subst (λ m. T (enter (added i k) (ledger (s .log)) m p)) (sym (at-o p d))
-            (added-up (ledger (s .log)) i k (label s p) p (E .basic .shown p (λ z. x (at-o p d ∙ z))))
-
         wide : length (s′ .labels) ≡ size
         wide = ap length (A .labels) ∙ length-set (s .labels) i k ∙ E .basic .width
-
-        place′ : (j p : ℕ) → ((j ≡ k) × (p ≡ i)) ⊎ T (ledger (s .log) j p) → p < length (s′ .labels)
-        place′ j p (inl x) = omega (arith, wide)
-        place′ j p (inr x) = omega (arith, wide, E .basic .width, E .basic .places j p x)
-
-        slot : (j p : ℕ) → ((j ≡ k) × (p ≡ i)) ⊎ T (ledger (s .log) j p) → j < length (s′ .clusters)
-        slot j p (inl x) = omega (arith, A .k-next, A .next-room)
-        slot j p (inr x) = omega (arith, E .basic .slots j p x, A .grows)
 
     pub add-early : Early image size Gone Keyed (suc i) s′
     unfolding h h′
@@ -226,12 +210,16 @@ module _ {image : List ℕ} {size : ℕ} {Gone : ℕ → Type 0} {Keyed : Type 0
             → (T (ledger (s′ .log) k i)) → ((j p : ℕ) → T (ledger (s .log) j p) → T (ledger (s′ .log) j p)) → Early image size Gone Keyed (suc i) s′
         build q B down here up = record {
           basic = B;
-          flats = λ j p x. flat′ j p (down j p x);
-          before = λ j p x. before′ j p (down j p x);
-          covered = λ p x. cover p (ℕ-discrete p i) x;
-          never = λ j p x. never′ j p (down j p x);
-          lit = λ p x e. lit′ p x e (ℕ-discrete p i);
-          free = λ j p y x. free′ j p y (down j p x);
+          flats = λ j p x. elim (down j p x) [ inl x ↦ ap (label s′) (x .1) ∙ at-i ∙ sym (x .0) | inr x ↦ at-o p (λ e. let z : p < i = E .before j p x in omega arith) ∙ E .flats j p x ];
+          before = λ j p x. elim (down j p x) [ inl x ↦ omega arith | inr x ↦ omega (arith, E .before j p x) ];
+          covered = λ p x. by-cases (ℕ-discrete p i)
+              (λ e. inr (k, subst (λ m. T (ledger (s′ .log) k m)) (sym e) here))
+              (λ d. elim (E .covered p (omega arith)) [ inl y ↦ inl y | inr y ↦ inr (y .0, up (y .0) p (y .1)) ]);
+          never = λ j p x y. elim (down j p x) [ inl x ↦ here-held (subst Gone (x .1) y) | inr x ↦ E .never j p x y ];
+          lit = λ p x e. by-cases (ℕ-discrete p i)
+              (λ z. zero-keyed (sym at-i ∙ sym (ap (label s′) z) ∙ e))
+              (λ z. E .lit p (omega arith) (sym (at-o p z) ∙ e));
+          free = λ j p y x. elim (down j p x) [ inl x ↦ omega (arith, A .k-next) | inr x ↦ E .free j p (omega (arith, A .next-up)) x ];
           room = A .next-room;
           some = omega (arith, E .some, A .next-up);
           roots = two k (λ j. cluster s′ j .mergedInto ≡ 0) (A .k-root) (λ j n. ap (λ c. c .mergedInto) (A .other j n) ∙ E .roots j);
@@ -241,34 +229,6 @@ module _ {image : List ℕ} {size : ℕ} {Gone : ℕ → Type 0} {Keyed : Type 0
           short = omega (arith, E .short, A .one-slot);
           few = λ N l. omega (arith, E .few N (omega (arith, A .grows)), countOf-more (standing s′) (standing s) k (λ j d. subst (λ c. T (ltb 0 (area c)) → T (standing s j)) (sym (A .other j d)) (λ x. x)) N);
         }
-          where
-            flat′ : (j p : ℕ) → ((j ≡ k) × (p ≡ i)) ⊎ T (ledger (s .log) j p) → label s′ p ≡ j
-            flat′ j p (inl x) = ap (label s′) (x .1) ∙ at-i ∙ sym (x .0)
-            flat′ j p (inr x) = at-o p (λ e. let z : p < i = E .before j p x in omega arith) ∙ E .flats j p x
-
-            before′ : (j p : ℕ) → ((j ≡ k) × (p ≡ i)) ⊎ T (ledger (s .log) j p) → p < suc i
-            before′ j p (inl x) = omega arith
-            before′ j p (inr x) = omega (arith, E .before j p x)
-
-            cover : (p : ℕ) → Dec (p ≡ i) → p < suc i → Gone p ⊎ ((j : ℕ) × T (ledger (s′ .log) j p))
-            cover p (yes e) x = inr (k, subst (λ m. T (ledger (s′ .log) k m)) (sym e) here)
-            cover p (no d) x = keep′ (E .covered p (omega arith))
-              where
-                keep′ : Gone p ⊎ ((j : ℕ) × T (ledger (s .log) j p)) → Gone p ⊎ ((j : ℕ) × T (ledger (s′ .log) j p))
-                keep′ (inl y) = inl y
-                keep′ (inr y) = inr (y .0, up (y .0) p (y .1))
-
-            never′ : (j p : ℕ) → ((j ≡ k) × (p ≡ i)) ⊎ T (ledger (s .log) j p) → Gone p → ⊥
-            never′ j p (inl x) y = here-held (subst Gone (x .1) y)
-            never′ j p (inr x) y = E .never j p x y
-
-            lit′ : (p : ℕ) → p < suc i → label s′ p ≡ 0 → Dec (p ≡ i) → Keyed
-            lit′ p x e (yes z) = zero-keyed (sym at-i ∙ sym (ap (label s′) z) ∙ e)
-            lit′ p x e (no z) = E .lit p (omega arith) (sym (at-o p z) ∙ e)
-
-            free′ : (j p : ℕ) → s′ .next ≤ j → ((j ≡ k) × (p ≡ i)) ⊎ T (ledger (s .log) j p) → ⊥
-            free′ j p y (inl x) = omega (arith, A .k-next)
-            free′ j p y (inr x) = E .free j p (omega (arith, A .next-up)) x
 
   -- ---- the two ways to add a pixel
 
@@ -324,16 +284,15 @@ module _ {image : List ℕ} {size : ℕ} {Gone : ℕ → Type 0} {Keyed : Type 0
     where
       pick : Dec (label s p ≡ 0) → label s p < s .next
       pick (yes e) = omega (arith, E .some)
-      pick (no d) = out (T-dec (ltb (label s p) (s .next)))
-        where
-          out : Dec (T (ltb (label s p) (s .next))) → label s p < s .next
-          out (yes z) = ltb→lt (label s p) (s .next) z
-          out (no z) = absurd (E .free (label s p) p (nltb→le (label s p) (s .next) (not-T (ltb (label s p) (s .next)) z)) (E .basic .shown p d))
+      pick (no d) = by-cases (T-dec (ltb (label s p) (s .next)))
+          (λ z. ltb→lt (label s p) (s .next) z)
+          (λ z. absurd (E .free (label s p) p (nltb→le (label s p) (s .next) (not-T (ltb (label s p) (s .next)) z)) (E .basic .shown p d)))
+
+  -- in stage 1 no two clusters share a pixel
+  pub flats-apart : {i : ℕ} {s : State} → Early image size Gone Keyed i s → (f t : ℕ) → f ≢ t → (p : ℕ) → T (ledger (s .log) t p) → T (ledger (s .log) f p) → ⊥
+  flats-apart E f t n p a b = n (sym (E .flats f p b) ∙ E .flats t p a)
 
   module _ (i f t : ℕ) (s : State) (E : Early image size Gone Keyed i s) (n : f ≢ t) (hf : f < s .next) (ht : t < s .next) (t-keyed : t ≡ 0 → Keyed) where
-    apart : (p : ℕ) → T (ledger (s .log) t p) → T (ledger (s .log) f p) → ⊥
-    apart p a b = n (sym (E .flats f p b) ∙ E .flats t p a)
-
     f-slot : f < length (s .clusters)
     f-slot = omega (arith, E .room)
 
@@ -350,13 +309,13 @@ module _ {image : List ℕ} {size : ℕ} {Gone : ℕ → Type 0} {Keyed : Type 0
     pub combine-early : Early image size Gone Keyed i (combine f t s)
     unfolding combine emptied withCluster J
     combine-early = record {
-      basic = plain-basic (E .basic) f t n apart t-slot J (ap (λ c. c .pixels) (combine-f f t s n f-slot t-slot)) (ap (λ c. c .sum) (combine-f f t s n f-slot t-slot));
+      basic = plain-basic (E .basic) f t n (flats-apart E f t n) t-slot J (ap (λ c. c .pixels) (combine-f f t s n f-slot t-slot)) (ap (λ c. c .sum) (combine-f f t s n f-slot t-slot));
       flats = λ k p x. flat′ k p (plain-down g f t n k p x .0) (plain-down g f t n k p x .1);
-      before = λ k p x. before′ k p (plain-down g f t n k p x .1);
+      before = λ k p x. elim (plain-down g f t n k p x .1) [ inl y ↦ E .before f p (y .1) | inr y ↦ E .before k p y ];
       covered = λ p x. cover p (E .covered p x);
-      never = λ k p x. never′ k p (plain-down g f t n k p x .1);
-      lit = λ p x e. lit′ p x e (T-dec (g f p));
-      free = λ k p y x. free′ k p y (plain-down g f t n k p x .1);
+      never = λ k p x. elim (plain-down g f t n k p x .1) [ inl y ↦ E .never f p (y .1) | inr y ↦ E .never k p y ];
+      lit = λ p x e. elim (T-dec (g f p)) [ yes z ↦ t-keyed (sym (lab-from (E .basic) f t J p z) ∙ e) | no z ↦ E .lit p x (sym (lab-other (E .basic) f t J p z) ∙ e) ];
+      free = λ k p z x. elim (plain-down g f t n k p x .1) [ inl y ↦ omega arith | inr y ↦ E .free k p z y ];
       room = omega (arith, E .room, J .table);
       some = E .some;
       roots = three f t (λ k. cluster (combine f t s) k .mergedInto ≡ 0) (ap (λ c. c .mergedInto) (combine-f f t s n f-slot t-slot) ∙ E .roots f) (J .t-merged ∙ E .roots t)
@@ -376,11 +335,9 @@ module _ {image : List ℕ} {size : ℕ} {Gone : ℕ → Type 0} {Keyed : Type 0
         gone x = let l : 0 < area (cluster (combine f t s) f) = ltb→lt 0 (area (cluster (combine f t s) f)) x in omega (arith, ap length empty)
 
         rest : (j : ℕ) → j ≢ t → T (standing (combine f t s) j) → T (standing s j)
-        rest j d x = pick (ℕ-discrete j f)
-          where
-            pick : Dec (j ≡ f) → T (standing s j)
-            pick (yes e) = absurd (gone (subst (λ m. T (standing (combine f t s) m)) e x))
-            pick (no e) = subst (λ c. T (ltb 0 (area c))) (J .other j e d) x
+        rest j d x = by-cases (ℕ-discrete j f)
+            (λ e. absurd (gone (subst (λ m. T (standing (combine f t s) m)) e x)))
+            (λ e. subst (λ c. T (ltb 0 (area c))) (J .other j e d) x)
 
         few′ : (N : ℕ) → length (s .clusters) ≤ N → Dec (T (standing s f)) → countOf (standing (combine f t s)) N ≤ i
         few′ N l (yes y) = omega (arith, E .few N l, countOf-swap (standing (combine f t s)) (standing s) f t rest gone y N (omega (arith, f-slot)))
@@ -401,32 +358,14 @@ module _ {image : List ℕ} {size : ℕ} {Gone : ℕ → Type 0} {Keyed : Type 0
         g = ledger (s .log)
 
         flat′ : (k p : ℕ) → k ≢ f → ((k ≡ t) × T (g f p)) ⊎ T (g k p) → label (combine f t s) p ≡ k
-        flat′ k p d (inl y) = lab-from (E .basic) f t n apart t-slot J p (y .1) ∙ sym (y .0)
-        flat′ k p d (inr y) = lab-other (E .basic) f t n apart t-slot J p (λ z. d (sym (E .flats k p y) ∙ E .flats f p z)) ∙ E .flats k p y
-
-        before′ : (k p : ℕ) → ((k ≡ t) × T (g f p)) ⊎ T (g k p) → p < i
-        before′ k p (inl y) = E .before f p (y .1)
-        before′ k p (inr y) = E .before k p y
+        flat′ k p d (inl y) = lab-from (E .basic) f t J p (y .1) ∙ sym (y .0)
+        flat′ k p d (inr y) = lab-other (E .basic) f t J p (λ z. d (sym (E .flats k p y) ∙ E .flats f p z)) ∙ E .flats k p y
 
         cover : (p : ℕ) → Gone p ⊎ ((k : ℕ) × T (g k p)) → Gone p ⊎ ((k : ℕ) × T (enter (plain f t) g k p))
         cover p (inl y) = inl y
-        cover p (inr y) = inr (pick (ℕ-discrete (y .0) f))
-          where
-            pick : Dec (y .0 ≡ f) → (k : ℕ) × T (enter (plain f t) g k p)
-            pick (yes e) = (t, plain-to g f t n p (subst (λ m. T (g m p)) e (y .1)))
-            pick (no d) = (y .0, plain-up g f t n (y .0) p d (y .1))
-
-        never′ : (k p : ℕ) → ((k ≡ t) × T (g f p)) ⊎ T (g k p) → Gone p → ⊥
-        never′ k p (inl y) = E .never f p (y .1)
-        never′ k p (inr y) = E .never k p y
-
-        lit′ : (p : ℕ) → p < i → label (combine f t s) p ≡ 0 → Dec (T (g f p)) → Keyed
-        lit′ p x e (yes z) = t-keyed (sym (lab-from (E .basic) f t n apart t-slot J p z) ∙ e)
-        lit′ p x e (no z) = E .lit p x (sym (lab-other (E .basic) f t n apart t-slot J p z) ∙ e)
-
-        free′ : (k p : ℕ) → s .next ≤ k → ((k ≡ t) × T (g f p)) ⊎ T (g k p) → ⊥
-        free′ k p z (inl y) = omega arith
-        free′ k p z (inr y) = E .free k p z y
+        cover p (inr y) = inr (by-cases (ℕ-discrete (y .0) f)
+            (λ e. (t, plain-to g f t n p (subst (λ m. T (g m p)) e (y .1))))
+            (λ d. (y .0, plain-up g f t n (y .0) p d (y .1))))
 
   -- next falls to l, which holds nothing
   pub lower-early : (o : RunnerConfig) (w i l u : ℕ) (s : State) → Early image size Gone Keyed i s → l ≢ u → u < s .next → ((p : ℕ) → T (ledger (s .log) l p) → ⊥)
@@ -458,12 +397,12 @@ module _ {image : List ℕ} {size : ℕ} {Gone : ℕ → Type 0} {Keyed : Type 0
 
       pick : (b : Bool) → eqb (l + 1) (s .next) ≡ b → (c : Bool) → Early image size Gone Keyed i (with (if b && c then s .next - 1 else s .next)) × (u < (if b && c then s .next - 1 else s .next))
       pick true e true =
-          let q : l + 1 ≡ s .next = eqb-is (l + 1) (s .next) e in
-          (keep (s .next - 1) (omega arith) (omega arith) (λ k p y x. low k p y x (ℕ-discrete k l)), omega arith)
-        where
-          low : (k p : ℕ) → s .next - 1 ≤ k → T (ledger (s .log) k p) → Dec (k ≡ l) → ⊥
-          low k p y x (yes z) = empty p (subst (λ m. T (ledger (s .log) m p)) z x)
-          low k p y x (no z) = let q : l + 1 ≡ s .next = eqb-is (l + 1) (s .next) e in E .free k p (omega arith) x
+          let q : l + 1 ≡ s .next = eqb-true (l + 1) (s .next) e in (
+            keep (s .next - 1) (omega arith) (omega arith) (λ k p y x. by-cases (ℕ-discrete k l)
+                (λ z. empty p (subst (λ m. T (ledger (s .log) m p)) z x))
+                (λ z. let q : l + 1 ≡ s .next = eqb-true (l + 1) (s .next) e in E .free k p (omega arith) x)),
+            omega arith,
+          )
       pick true e false = (keep (s .next) (omega arith) (E .some) (E .free), hu)
       pick false e c = (keep (s .next) (omega arith) (E .some) (E .free), hu)
 
@@ -487,18 +426,14 @@ module _ {image : List ℕ} {size : ℕ} {Gone : ℕ → Type 0} {Keyed : Type 0
         plain-pixel : isKey o image i ≡ false → Gone i → ⊥
         plain-pixel x y = true≢false (sym (only i y .0) ∙ x)
 
-        first-of : (a b : Bool) → a && b ≡ true → a ≡ true
-        first-of true b e = refl
-        first-of false b e = e
-
         skip : Gone i → Keyed → Early image size Gone Keyed (suc i) s
         skip g q = record {
           basic = E .basic;
           flats = E .flats;
           before = λ k p x. omega (arith, E .before k p x);
-          covered = λ p x. cover p (ℕ-discrete p i) x;
+          covered = λ p x. elim (ℕ-discrete p i) [ yes e ↦ inl (subst Gone (sym e) g) | no d ↦ E .covered p (omega arith) ];
           never = E .never;
-          lit = λ p x e. low p x e (ℕ-discrete p i);
+          lit = λ p x e. elim (ℕ-discrete p i) [ yes z ↦ q | no z ↦ E .lit p (omega arith) e ];
           free = E .free;
           room = E .room;
           some = E .some;
@@ -509,14 +444,6 @@ module _ {image : List ℕ} {size : ℕ} {Gone : ℕ → Type 0} {Keyed : Type 0
           short = omega (arith, E .short);
           few = λ N l. omega (arith, E .few N l);
         }
-          where
-            cover : (p : ℕ) → Dec (p ≡ i) → p < suc i → Gone p ⊎ ((k : ℕ) × T (ledger (s .log) k p))
-            cover p (yes e) x = inl (subst Gone (sym e) g)
-            cover p (no d) x = E .covered p (omega arith)
-
-            low : (p : ℕ) → p < suc i → label s p ≡ 0 → Dec (p ≡ i) → Keyed
-            low p x e (yes z) = q
-            low p x e (no z) = E .lit p (omega arith) e
 
         pick : (b : Bool) → isKey o image i ≡ b → (d : Bool) → isDiscard (o .keyingAction) ≡ d
             → (x : Bool) → sameAt o image (some i) (up w i) && sameAt o image (some i) (upLeft w i) ≡ x
@@ -524,8 +451,8 @@ module _ {image : List ℕ} {size : ℕ} {Gone : ℕ → Type 0} {Keyed : Type 0
             → Early image size Gone Keyed (suc i) (if b then (if d then s else add i c at 0 s) else (if x then add i c at u s else (if y then add i c at l s else beginCluster i c at s)))
         pick true e true d x ex y ey = skip (gone i e d) (keyed i e)
         pick true e false d x ex y ey = add-early E fits (add-adds i 0 at s E (E .some)) (λ z. keyed i e) (λ x. true≢false (sym (only i x .1) ∙ d))
-        pick false e d z true ex y ey = add-early E fits (add-adds i u at s E hu) (zu (first-of _ _ ex)) (plain-pixel e)
-        pick false e d z false ex true ey = add-early E fits (add-adds i l at s E hl) (zl (first-of _ _ ey)) (plain-pixel e)
+        pick false e d z true ex y ey = add-early E fits (add-adds i u at s E hu) (zu (both-true _ _ ex .0)) (plain-pixel e)
+        pick false e d z false ex true ey = add-early E fits (add-adds i l at s E hl) (zl (both-true _ _ ey .0)) (plain-pixel e)
         pick false e d z false ex false ey = add-early E fits (beginCluster-adds i at s E) (λ z₀. absurd (omega (arith, E .some))) (plain-pixel e)
 
     labelAt-next : (i : ℕ) (s : State) (p : Option ℕ) → Early image size Gone Keyed i s → labelAt s p < s .next
@@ -566,21 +493,14 @@ module _ {image : List ℕ} {size : ℕ} {Gone : ℕ → Type 0} {Keyed : Type 0
         pu : sameAt o image (some i) (up w i) ≡ true → u ≡ 0 → Keyed
         pu = like-lit i s E (up w i) (up-earlier w i (wide i fits))
 
-        third : (a b c d : Bool) → a && b && c && d ≡ true → (c ≡ true) × (d ≡ true)
-        third true true true true e = (refl, refl)
-        third true true true false e = (refl, e)
-        third true true false d e = absurd (true≢false (sym e))
-        third true false c d e = absurd (true≢false (sym e))
-        third false b c d e = absurd (true≢false (sym e))
-
         differ : leftMeetsUp o w image i s ≡ true → l ≢ u
         differ e x = true≢false (sym e ∙ ap (λ b. not b && sameAt o image (left w i) (up w i) && sameAt o image (some i) (left w i) && sameAt o image (some i) (up w i)) (eqb-yes l u x))
 
         pick : (b : Bool) → leftMeetsUp o w image i s ≡ b → Early image size Gone Keyed (suc i) (if b then combineThenPlace o w image i l u s else place o w image i l u s)
         pick true e =
-            combine-place i l u s E fits (differ e) (labelAt-next i s (left w i) E) (labelAt-next i s (up w i) E)
-            (pl (third (not (eqb l u)) (sameAt o image (left w i) (up w i)) (sameAt o image (some i) (left w i)) (sameAt o image (some i) (up w i)) e .0))
-            (pu (third (not (eqb l u)) (sameAt o image (left w i) (up w i)) (sameAt o image (some i) (left w i)) (sameAt o image (some i) (up w i)) e .1))
+            let f = not (eqb l u) && sameAt o image (left w i) (up w i) in
+            let r = both-true (f && sameAt o image (some i) (left w i)) (sameAt o image (some i) (up w i)) e in
+            combine-place i l u s E fits (differ e) (labelAt-next i s (left w i) E) (labelAt-next i s (up w i) E) (pl (both-true f (sameAt o image (some i) (left w i)) (r .0) .1)) (pu (r .1))
         pick false e = place-early i l u s E fits (labelAt-next i s (left w i) E) (labelAt-next i s (up w i) E) pl pu
 
     pub taken-early : Early image size Gone Keyed 0 (fresh size) → (n : ℕ) → n ≤ size → Early image size Gone Keyed n (taken o w image size n)

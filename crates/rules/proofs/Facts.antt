@@ -1,13 +1,13 @@
 -- Tests, counts and totals.
 use mathlib.Core.Path.{_≡_, refl, sym, ap, _∙_, subst}
-use mathlib.Core.Logic.{_≢_, _⊎_, inl, inr}
+use mathlib.Core.Logic.{_≢_, _⊎_, inl, inr, by-cases}
 use mathlib.Core.Bool.{Bool, true, false, not, _&&_, _||_, true≢false}
 use mathlib.Core.List.{List, [], _∷_, _++_}
 use Prim.Native.Nat.{ℕ, zero, suc, _+_, _≤_, _<_}
 use native.Mathlib.Nat.{add-comm, add-assoc, add-zero, zero-add}
 use native.Mathlib.Decide.{ℕ-discrete, decLt}
 use native.Mathlib.Omega.{arith}
-use lib.Dec.{T, ltb, eqb, eqb→eq, eqb-refl}
+use lib.Dec.{T, not-T, ltb, eqb, eqb→eq, eqb-refl}
 use lib.ListN.{length, getD, set, length-set}
 use lib.Seq.{getD-set-same, getD-set-other}
 use Rattle.rules.specs.Base.{if_then_else_, keep}
@@ -39,6 +39,14 @@ pub T-or-r : (a b : Bool) → T b → T (a || b)
 T-or-r true b t = tt
 T-or-r false b t = t
 
+pub T-and : (a b : Bool) → T a → T b → T (a && b)
+T-and true b x y = y
+T-and false b x y = x
+
+pub T-both : (a b : Bool) → T (a && b) → T a × T b
+T-both true b x = (tt, x)
+T-both false b x = absurd x
+
 pub eqb-yes : (m n : ℕ) → m ≡ n → eqb m n ≡ true
 eqb-yes m n e = is-true (eqb m n) (subst (λ x. T (eqb m x)) e (eqb-refl m))
 
@@ -58,6 +66,10 @@ bit-T false n = n refl
 pub T-bit : (b : Bool) → T b → bit b ≡ 1
 T-bit true t = refl
 T-bit false t = absurd t
+
+bit-le : (a b : Bool) → (T a → T b) → bit a ≤ bit b
+bit-le true b f = omega (arith, T-bit b (f tt))
+bit-le false b f = omega arith
 
 pub occurs-append : (p : ℕ) (xs ys : List ℕ) → occurs p (xs ++ ys) ≡ occurs p xs + occurs p ys
 occurs-append p [] ys = sym (zero-add (occurs p ys))
@@ -144,45 +156,23 @@ module _ (image : List ℕ) where
   pub tally-one : (p n : ℕ) → p < n → tally image (λ q. eqb q p) n ≡ one (pixel image p)
   unfolding tally
   tally-one p zero h = absurd (omega arith)
-  tally-one p (suc n) h = step (ℕ-discrete n p) (tally-one p n)
-    where
-      step : Dec (n ≡ p) → (p < n → tally image (λ q. eqb q p) n ≡ one (pixel image p)) → tally image (λ q. eqb q p) (suc n) ≡ one (pixel image p)
-      step (yes e) ih =
-          rw (eqb-yes n p e) (ap (λ m. m ⊕ one (pixel image n)) (tally-before p n (omega arith)) ∙ ⊕-comm zeroSum (one (pixel image n)) ∙ ⊕-none (one (pixel image n)) ∙ ap (λ m. one (pixel image m)) e)
-      step (no d) ih = rw (eqb-no n p d) (ih (omega arith))
+  tally-one p (suc n) h = by-cases (ℕ-discrete n p)
+      (λ e. rw (eqb-yes n p e) (ap (λ m. m ⊕ one (pixel image n)) (tally-before p n (omega arith)) ∙ ⊕-comm zeroSum (one (pixel image n)) ∙ ⊕-none (one (pixel image n)) ∙ ap (λ m. one (pixel image m)) e))
+      (λ d. rw (eqb-no n p d) (tally-one p n (omega arith)))
 
 -- ---- fewer, and inside
 
 pub countOf-le : (a b : ℕ → Bool) → ((q : ℕ) → T (a q) → T (b q)) → (n : ℕ) → countOf a n ≤ countOf b n
 unfolding countOf
 countOf-le a b f zero = omega arith
-countOf-le a b f (suc n) = step (a n) (b n) (f n) (countOf-le a b f n)
-  where
-    step : (u v : Bool) → (T u → T v) → countOf a n ≤ countOf b n → bit u + countOf a n ≤ bit v + countOf b n
-    step true true g h = omega arith
-    step true false g h = absurd (g tt)
-    step false true g h = omega arith
-    step false false g h = omega arith
+countOf-le a b f (suc n) = omega (arith, bit-le (a n) (b n) (f n), countOf-le a b f n)
 
 pub countOf-lt : (a b : ℕ → Bool) → ((q : ℕ) → T (a q) → T (b q)) → (n q : ℕ) → q < n → T (b q) → (T (a q) → ⊥) → countOf a n < countOf b n
 unfolding countOf
 countOf-lt a b f zero q l x y = absurd (omega arith)
-countOf-lt a b f (suc n) q l x y = step (ℕ-discrete q n) (λ g. countOf-lt a b f n q g x y)
-  where
-    last : (u v : Bool) → T v → (T u → ⊥) → countOf a n ≤ countOf b n → bit u + countOf a n < bit v + countOf b n
-    last true v g e h = absurd (e tt)
-    last false true g e h = omega arith
-    last false false g e h = absurd g
-
-    go : (u v : Bool) → (T u → T v) → countOf a n < countOf b n → bit u + countOf a n < bit v + countOf b n
-    go true true g h = omega arith
-    go true false g h = absurd (g tt)
-    go false true g h = omega arith
-    go false false g h = omega arith
-
-    step : Dec (q ≡ n) → (q < n → countOf a n < countOf b n) → bit (a n) + countOf a n < bit (b n) + countOf b n
-    step (yes e) ih = last (a n) (b n) (subst (λ m. T (b m)) e x) (λ z. y (subst (λ m. T (a m)) (sym e) z)) (countOf-le a b f n)
-    step (no d) ih = go (a n) (b n) (f n) (ih (omega arith))
+countOf-lt a b f (suc n) q l x y = by-cases (ℕ-discrete q n)
+    (λ e. omega (arith, T-bit (b n) (subst (λ m. T (b m)) e x), ap bit (is-false (a n) (λ z. y (subst (λ m. T (a m)) (sym e) z))), countOf-le a b f n))
+    (λ d. omega (arith, bit-le (a n) (b n) (f n), countOf-lt a b f n q (omega arith) x y))
 
 -- where b has more, it has one that a has not
 pub countOf-some : (a b : ℕ → Bool) (n : ℕ) → countOf a n < countOf b n → (q : ℕ) × T (b q) × (T (a q) → ⊥)
@@ -204,11 +194,9 @@ countOf-before x (suc n) l = rw (eqb-no n x (omega arith)) (omega (arith, countO
 pub countOf-one : (x n : ℕ) → x < n → countOf (λ p. eqb p x) n ≡ 1
 unfolding countOf
 countOf-one x zero l = absurd (omega arith)
-countOf-one x (suc n) l = pick (ℕ-discrete n x) (countOf-one x n)
-  where
-    pick : Dec (n ≡ x) → (x < n → countOf (λ p. eqb p x) n ≡ 1) → countOf (λ p. eqb p x) (suc n) ≡ 1
-    pick (yes e) ih = rw (eqb-yes n x e) (omega (arith, countOf-before x n (omega arith)))
-    pick (no d) ih = rw (eqb-no n x d) (omega (arith, ih (omega arith)))
+countOf-one x (suc n) l = by-cases (ℕ-discrete n x)
+    (λ e. rw (eqb-yes n x e) (omega (arith, countOf-before x n (omega arith))))
+    (λ d. rw (eqb-no n x d) (omega (arith, countOf-one x n (omega arith))))
 
 -- one entry more
 countOf-add : (f g : ℕ → Bool) (t : ℕ) → ((j : ℕ) → j ≢ t → T (f j) → T (g j)) → (n : ℕ) → countOf f n ≤ countOf g n + countOf (λ j. eqb j t) n
@@ -224,11 +212,7 @@ countOf-add f g t s (suc n) = step (f n) (g n) (eqb n t) refl (s n) (countOf-add
     step true false false e h l = absurd (h (λ x. true≢false (sym (eqb-yes n t x) ∙ e)) tt)
 
 countOf-once : (t n : ℕ) → countOf (λ j. eqb j t) n ≤ 1
-countOf-once t n = pick (decLt t n)
-  where
-    pick : Dec (t < n) → countOf (λ j. eqb j t) n ≤ 1
-    pick (yes l) = omega (arith, countOf-one t n l)
-    pick (no l) = omega (arith, countOf-before t n (omega arith))
+countOf-once t n = elim (decLt t n) [ yes l ↦ omega (arith, countOf-one t n l) | no l ↦ omega (arith, countOf-before t n (omega arith)) ]
 
 pub countOf-more : (f g : ℕ → Bool) (t : ℕ) → ((j : ℕ) → j ≢ t → T (f j) → T (g j)) → (n : ℕ) → countOf f n ≤ countOf g n + 1
 countOf-more f g t s n = omega (arith, countOf-add f g t s n, countOf-once t n)
@@ -238,25 +222,10 @@ pub countOf-swap : (f g : ℕ → Bool) (k t : ℕ) → ((j : ℕ) → j ≢ t �
 countOf-swap f g k t s x y n l =
     omega (
       arith,
-      countOf-more f (λ j. f j && not (eqb j t)) t (λ j d z. both (f j) (eqb j t) z (λ e. d (eqb→eq j t e))) n,
-      countOf-lt (λ j. f j && not (eqb j t)) g (λ j z. s j (λ e. apart j z e) (left (f j) (not (eqb j t)) z)) n k l y (λ z. x (left (f k) (not (eqb k t)) z)),
+      countOf-more f (λ j. f j && not (eqb j t)) t (λ j d z. T-and (f j) (not (eqb j t)) z (not-T (eqb j t) (λ e. d (eqb→eq j t e)))) n,
+      countOf-lt (λ j. f j && not (eqb j t)) g (λ j z. let v = T-both (f j) (not (eqb j t)) z in s j (λ e. subst (λ b. T (not b)) (eqb-yes j t e) (v .1)) (v .0)) n k l y
+          (λ z. x (T-both (f k) (not (eqb k t)) z .0)),
     )
-  where
-    both : (a b : Bool) → T a → (T b → ⊥) → T (a && not b)
-    both true true p q = q tt
-    both true false p q = tt
-    both false b p q = p
-
-    left : (a b : Bool) → T (a && b) → T a
-    left true b p = tt
-    left false b p = p
-
-    right : (a b : Bool) → T (a && b) → T b
-    right true b p = p
-    right false b p = absurd p
-
-    apart : (j : ℕ) → T (f j && not (eqb j t)) → j ≡ t → ⊥
-    apart j z e = subst (λ b. T (not b)) (eqb-yes j t e) (right (f j) (not (eqb j t)) z)
 
 -- slot k has pixels
 abbrev pub standing : State → ℕ → Bool
@@ -284,11 +253,7 @@ same-bool false false f g = refl
 pub countOf-bound : (f : ℕ → Bool) (n : ℕ) → countOf f n ≤ n
 unfolding countOf
 countOf-bound f zero = omega arith
-countOf-bound f (suc n) = pick (f n) (countOf-bound f n)
-  where
-    pick : (b : Bool) → countOf f n ≤ n → bit b + countOf f n ≤ suc n
-    pick true l = omega arith
-    pick false l = omega arith
+countOf-bound f (suc n) = elim (f n) as (λ b. countOf f n ≤ n → bit b + countOf f n ≤ suc n) [ true ↦ λ l. omega arith | false ↦ λ l. omega arith ] (countOf-bound f n)
 
 pub both-true : (a b : Bool) → (a && b) ≡ true → (a ≡ true) × (b ≡ true)
 both-true true b e = (refl, e)

@@ -1,8 +1,8 @@
 -- Clusters as a forest, with no state and no list: what holds before a merge holds after it.
 -- H k p: cluster k holds pixel p. O k p: p is in k's residue. lab p: the label of p.
 --
-use mathlib.Core.Path.{_≡_, refl, sym, _∙_, subst}
-use mathlib.Core.Logic.{_≢_, _⊎_, inl, inr}
+use mathlib.Core.Path.{_≡_, sym, _∙_, subst}
+use mathlib.Core.Logic.{_≢_, _⊎_, inl, inr, by-cases}
 use Prim.Native.Nat.{ℕ}
 use native.Mathlib.Decide.{ℕ-discrete}
 
@@ -56,11 +56,7 @@ module _ {H O H′ O′ : ℕ → ℕ → Type 0} {lab lab′ : ℕ → ℕ} {Ke
   t-kept = M .kept t (λ e. M .f≢t (sym e))
 
   old : (j q : ℕ) → j ≢ t → H′ j q → H j q
-  old j q n h = pick (M .down j q h .1)
-    where
-      pick : ((j ≡ t) × H f q) ⊎ H j q → H j q
-      pick (inl e) = absurd (n (e .0))
-      pick (inr x) = x
+  old j q n h = elim (M .down j q h .1) [ inl e ↦ absurd (n (e .0)) | inr x ↦ x ]
 
   -- what was inside stays inside, unless it is t
   still : (j k : ℕ) → j ≢ t → Kept k → Inside H j k → Inside H′ j k
@@ -69,7 +65,10 @@ module _ {H O H′ O′ : ℕ → ℕ → Type 0} {lab lab′ : ℕ → ℕ} {Ke
 
   -- whatever meets t is inside it now
   into : (j p : ℕ) → j ≢ t → H j p → H′ t p → Inside H′ j t
-  into j p n a b = pick (M .down t p b .1)
+  into j p n a b = elim (M .down t p b .1) [
+    | inl x ↦ by (x .1) (ℕ-discrete j f)
+    | inr x ↦ let l : lab p ≡ t = M .t-top p x in still j t n t-kept (subst (λ m. Inside H j m) l (F .under-top j p a (λ e. n (e ∙ l))))
+  ]
     where
       by : H f p → Dec (j ≡ f) → Inside H′ j t
       by x (yes e) = (
@@ -85,47 +84,29 @@ module _ {H O H′ O′ : ℕ → ℕ → Type 0} {lab lab′ : ℕ → ℕ} {Ke
           let i : Inside H j f = subst (λ m. Inside H j m) l (F .under-top j p a (λ e. d (e ∙ l))) in
           (λ q h. M .to q (i .0 q (old j q n h)), (i .1 .0, M .to (i .1 .0) (i .1 .1), λ h. i .1 .2 (old j (i .1 .0) n h)))
 
-      pick : ((t ≡ t) × H f p) ⊎ H t p → Inside H′ j t
-      pick (inl x) = by (x .1) (ℕ-discrete j f)
-      pick (inr x) =
-          let l : lab p ≡ t = M .t-top p x in
-          still j t n t-kept (subst (λ m. Inside H j m) l (F .under-top j p a (λ e. n (e ∙ l))))
-
   -- the clusters that hold p, where f does not, are those that did
   same-place : (k p : ℕ) → (H f p → ⊥) → H′ k p → H k p
-  same-place k p x h = pick (M .down k p h .1)
-    where
-      pick : ((k ≡ t) × H f p) ⊎ H k p → H k p
-      pick (inl y) = absurd (x (y .1))
-      pick (inr y) = y
+  same-place k p x h = elim (M .down k p h .1) [ inl y ↦ absurd (x (y .1)) | inr y ↦ y ]
 
   -- the label of a pixel that f does not hold is not f
   lab-kept : (k p : ℕ) → (H f p → ⊥) → H k p → Kept (lab p)
   lab-kept k p x a = M .kept (lab p) (λ e. x (subst (λ m. H m p) e (F .top-held k p a)))
 
   new-top : (k p : ℕ) → H′ k p → H′ (lab′ p) p
-  new-top k p h = pick (M .dec p)
-    where
-      pick : Dec (H f p) → H′ (lab′ p) p
-      pick (yes x) = subst (λ m. H′ m p) (sym (M .lab-from p x)) (M .to p x)
-      pick (no x) =
-          let a : H k p = same-place k p x h in
-          subst (λ m. H′ m p) (sym (M .lab-other p x)) (M .up (lab p) p (lab-kept k p x a) (F .top-held k p a))
+  new-top k p h = by-cases (M .dec p)
+      (λ x. subst (λ m. H′ m p) (sym (M .lab-from p x)) (M .to p x))
+      (λ x. let a : H k p = same-place k p x h in subst (λ m. H′ m p) (sym (M .lab-other p x)) (M .up (lab p) p (lab-kept k p x a) (F .top-held k p a)))
 
   new-under : (k p : ℕ) → H′ k p → k ≢ lab′ p → Inside H′ k (lab′ p)
-  new-under k p h n = pick (M .dec p)
+  new-under k p h n = by-cases (M .dec p)
+      (λ x. let e : lab′ p ≡ t = M .lab-from p x in subst (λ m. Inside H′ k m) (sym e) (into k p (λ y. n (y ∙ sym e)) (old k p (λ y. n (y ∙ sym e)) h) (M .to p x)))
+      (λ x. deep x (same-place k p x h) (M .lab-other p x) (ℕ-discrete (lab p) t))
     where
       deep : (H f p → ⊥) → H k p → lab′ p ≡ lab p → Dec (lab p ≡ t) → Inside H′ k (lab′ p)
       deep x a e (yes z) = subst (λ m. Inside H′ k m) (sym (e ∙ z)) (into k p (λ y. n (y ∙ sym (e ∙ z))) a (M .up t p t-kept (subst (λ m. H m p) z (F .top-held k p a))))
       deep x a e (no z) =
           subst (λ m. Inside H′ k m) (sym e)
           (still k (lab p) (λ y. z (M .t-top p (subst (λ m. H m p) y a))) (lab-kept k p x a) (F .under-top k p a (λ y. n (y ∙ sym e))))
-
-      pick : Dec (H f p) → Inside H′ k (lab′ p)
-      pick (yes x) =
-          let e : lab′ p ≡ t = M .lab-from p x in
-          subst (λ m. Inside H′ k m) (sym e) (into k p (λ y. n (y ∙ sym e)) (old k p (λ y. n (y ∙ sym e)) h) (M .to p x))
-      pick (no x) = deep x (same-place k p x h) (M .lab-other p x) (ℕ-discrete (lab p) t)
 
   new-nested : (j k p : ℕ) → H′ j p → H′ k p → j ≢ k → Inside H′ j k ⊎ Inside H′ k j
   new-nested j k p a b n = pick (ℕ-discrete j t) (ℕ-discrete k t)

@@ -1,6 +1,6 @@
 -- Hole children: a cluster that names one is the cluster it deepened into, and names it once; a cluster that deepened never changes again.
 use mathlib.Core.Path.{_≡_, refl, sym, ap, _∙_, subst}
-use mathlib.Core.Logic.{_≢_}
+use mathlib.Core.Logic.{_≢_, by-cases}
 use mathlib.Core.Bool.{Bool, true, false}
 use mathlib.Core.List.{List, [], _∷_, _++_}
 use Prim.Native.Nat.{ℕ, _+_, _≤_, _<_}
@@ -16,8 +16,8 @@ use Rattle.rules.specs.Run.{stage1}
 use Rattle.rules.specs.Order.{start, turns}
 use Rattle.rules.specs.Claim.{bit, occurs}
 use Rattle.rules.proofs.Facts.{eqb-yes, eqb-no, occurs-append}
-use Rattle.rules.proofs.Basic.{three, merge-f, merge-t, merge-moved, deepen-f, deepen-t, deepen-moved}
-use Rattle.rules.proofs.Visits.{Going, Near, visit-cases, isolated-cases, root, target-root, k≢t, k-slot, t-slot}
+use Rattle.rules.proofs.Basic.{three}
+use Rattle.rules.proofs.Visits.{Going, Near, visit-cases, isolated-cases, root, target-root, merge-from, deepen-to, deepen-from, deepen-changes, merge-changes, merge-to}
 use Rattle.rules.proofs.Early.{settled}
 use Rattle.rules.proofs.Slots.{stage1-slots}
 use Rattle.rules.proofs.Order.{turns-keep, start-turning}
@@ -29,44 +29,29 @@ pub record Holes (s : State) : Type 0 where
 
 -- a cluster inside no other is named nowhere
 pub root-unnamed : {s : State} → Holes s → (c : ℕ) → cluster s c .mergedInto ≡ 0 → (k : ℕ) → occurs c (cluster s k .holes) ≡ 0
-root-unnamed {s} H c r k = pick (ℕ-discrete (occurs c (cluster s k .holes)) 0)
-  where
-    pick : Dec (occurs c (cluster s k .holes) ≡ 0) → occurs c (cluster s k .holes) ≡ 0
-    pick (yes z) = z
-    pick (no z) = let y = H .inside k c z in absurd (y .0 (sym (y .1) ∙ r))
+root-unnamed {s} H c r k = elim (ℕ-discrete (occurs c (cluster s k .holes)) 0) [ yes z ↦ z | no z ↦ let y = H .inside k c z in absurd (y .0 (sym (y .1) ∙ r)) ]
 
 -- a hole child has a slot
 pub child-slot : {s : State} → Holes s → (k c : ℕ) → occurs c (cluster s k .holes) ≢ 0 → c < length (s .clusters)
-child-slot {s} H k c x = pick (decLt c (length (s .clusters)))
-  where
-    pick : Dec (c < length (s .clusters)) → c < length (s .clusters)
-    pick (yes l) = l
-    pick (no l) = let y = H .inside k c x in absurd (y .0 (sym (y .1) ∙ ap (λ d. d .mergedInto) (List·getD-eq-default (s .clusters) newCluster {n = c} (omega arith))))
+child-slot {s} H k c x = by-cases (decLt c (length (s .clusters)))
+    (λ l. l)
+    (λ l. let y = H .inside k c x in absurd (y .0 (sym (y .1) ∙ ap (λ d. d .mergedInto) (List·getD-eq-default (s .clusters) newCluster {n = c} (omega arith)))))
 
 pub put-holes : (k : ℕ) (s : State) → Holes s → Holes (put k s)
 unfolding put
 put-holes k s H = record { inside = H .inside; once = H .once }
 
 module _ {image : List ℕ} {size : ℕ} (a k : ℕ) (s : State) (G : Going image size a k s) (pos : 0 < a) (e : area (cluster s k) ≡ a) (t : ℕ) (N : Near s (label s (getD (cluster s k .pixels) 0 0)) t) where
-  d : k ≢ t
-  d = k≢t a k s G pos e t N
-
-  ks : k < length (s .clusters)
-  ks = k-slot a k s G pos e t N
-
-  ts : t < length (s .clusters)
-  ts = t-slot a k s G pos e t N
-
   -- a plain merge changes no hole list
   pub merge-same-holes : (j : ℕ) → cluster (merge k t s) j .holes ≡ cluster s j .holes
   unfolding withResidue withCluster emptied
   merge-same-holes = three k t (λ j. cluster (merge k t s) j .holes ≡ cluster s j .holes)
-      (ap (λ c. c .holes) (merge-f k t s d ks ts)) (ap (λ c. c .holes) (merge-t k t s d ks ts)) (λ j m l. ap (λ c. c .holes) (merge-moved k t s d ks ts .other j m l))
+      (ap (λ c. c .holes) (merge-from a k s G pos e t N)) (ap (λ c. c .holes) (merge-to a k s G pos e t N)) (λ j m l. ap (λ c. c .holes) (merge-changes a k s G pos e t N .other j m l))
 
   pub merge-same-into : (j : ℕ) → cluster (merge k t s) j .mergedInto ≡ cluster s j .mergedInto
   unfolding emptied
   merge-same-into = three k t (λ j. cluster (merge k t s) j .mergedInto ≡ cluster s j .mergedInto)
-      (ap (λ c. c .mergedInto) (merge-f k t s d ks ts)) (merge-moved k t s d ks ts .t-merged) (λ j m l. ap (λ c. c .mergedInto) (merge-moved k t s d ks ts .other j m l))
+      (ap (λ c. c .mergedInto) (merge-from a k s G pos e t N)) (merge-changes a k s G pos e t N .t-merged) (λ j m l. ap (λ c. c .mergedInto) (merge-changes a k s G pos e t N .other j m l))
 
   pub merge-holes : Holes s → Holes (merge k t s)
   merge-holes H = record {
@@ -78,26 +63,22 @@ module _ {image : List ℕ} {size : ℕ} (a k : ℕ) (s : State) (G : Going imag
     -- a deepening one only the target's
     pub deepen-t-holes : cluster (deepen b k t s) t .holes ≡ (if b then cluster s t .holes ++ (k ∷ []) else cluster s t .holes)
     unfolding withCluster deeper
-    deepen-t-holes = ap (λ c. c .holes) (deepen-t k t s d ks ts b)
+    deepen-t-holes = ap (λ c. c .holes) (deepen-to a k s G pos e t N b)
 
     pub deepen-other-holes : (j : ℕ) → j ≢ t → cluster (deepen b k t s) j .holes ≡ cluster s j .holes
     unfolding mergedTo
-    deepen-other-holes j n = pick (ℕ-discrete j k)
-      where
-        pick : Dec (j ≡ k) → cluster (deepen b k t s) j .holes ≡ cluster s j .holes
-        pick (yes z) = subst (λ m. cluster (deepen b k t s) m .holes ≡ cluster s m .holes) (sym z) (ap (λ c. c .holes) (deepen-f k t s d ks ts b))
-        pick (no z) = ap (λ c. c .holes) (deepen-moved k t s d ks ts b .other j z n)
+    deepen-other-holes j n = by-cases (ℕ-discrete j k)
+        (λ z. subst (λ m. cluster (deepen b k t s) m .holes ≡ cluster s m .holes) (sym z) (ap (λ c. c .holes) (deepen-from a k s G pos e t N b)))
+        (λ z. ap (λ c. c .holes) (deepen-changes a k s G pos e t N b .other j z n))
 
     pub deepen-other-into : (j : ℕ) → j ≢ k → cluster (deepen b k t s) j .mergedInto ≡ cluster s j .mergedInto
-    deepen-other-into j n = pick (ℕ-discrete j t)
-      where
-        pick : Dec (j ≡ t) → cluster (deepen b k t s) j .mergedInto ≡ cluster s j .mergedInto
-        pick (yes z) = subst (λ m. cluster (deepen b k t s) m .mergedInto ≡ cluster s m .mergedInto) (sym z) (deepen-moved k t s d ks ts b .t-merged)
-        pick (no z) = ap (λ c. c .mergedInto) (deepen-moved k t s d ks ts b .other j n z)
+    deepen-other-into j n = by-cases (ℕ-discrete j t)
+        (λ z. subst (λ m. cluster (deepen b k t s) m .mergedInto ≡ cluster s m .mergedInto) (sym z) (deepen-changes a k s G pos e t N b .t-merged))
+        (λ z. ap (λ c. c .mergedInto) (deepen-changes a k s G pos e t N b .other j n z))
 
     pub deepen-into : cluster (deepen b k t s) k .mergedInto ≡ t
     unfolding mergedTo
-    deepen-into = ap (λ c. c .mergedInto) (deepen-f k t s d ks ts b)
+    deepen-into = ap (λ c. c .mergedInto) (deepen-from a k s G pos e t N b)
 
     pub deepen-holes : Holes s → Holes (deepen b k t s)
     deepen-holes H = record { inside = λ j. inside j (ℕ-discrete j t); once = λ j. once j (ℕ-discrete j t) }
@@ -146,8 +127,8 @@ pub deepened-stays : {image : List ℕ} {size : ℕ} (o : RunnerConfig) (w h a k
 unfolding put
 deepened-stays o w h a k s G pos c d =
     visit-cases o w h a k s (λ u. cluster u c ≡ cluster s c) (λ x. refl) (λ z l. refl) (λ z l n. isolated-cases o w h a k s (λ u. cluster u c ≡ cluster s c) refl refl)
-    (λ z l t N. merge-moved k t s (k≢t a k s G pos z t N) (k-slot a k s G pos z t N) (t-slot a k s G pos z t N) .other c (not-k z) (not-t z t N))
-    (λ z l t N b. deepen-moved k t s (k≢t a k s G pos z t N) (k-slot a k s G pos z t N) (t-slot a k s G pos z t N) b .other c (not-k z) (not-t z t N))
+    (λ z l t N. merge-changes a k s G pos z t N .other c (not-k z) (not-t z t N))
+    (λ z l t N b. deepen-changes a k s G pos z t N b .other c (not-k z) (not-t z t N))
   where
     not-k : area (cluster s k) ≡ a → c ≢ k
     not-k z y = d (subst (λ j. cluster s j .mergedInto ≡ 0) (sym y) (root a k s G pos z))

@@ -4,11 +4,11 @@ use mathlib.Core.Path.{_≡_, refl, sym, ap, _∙_, subst}
 use mathlib.Core.Logic.{_≢_, _⊎_, inl, inr}
 use mathlib.Core.Bool.{Bool, true, false, not, _&&_, _||_, true≢false}
 use mathlib.Core.List.{List, [], _∷_, _++_}
-use mathlib.Core.Option.{Option, some}
-use mathlib.Core.Option.{none as off}
+use mathlib.Core.Option.{Option, some, none as off}
 use Prim.Native.Nat.{ℕ, suc, _+_, _*_, _≤_, _<_}
 use native.Mathlib.Omega.{arith}
-use lib.Dec.{T, eqb, ltb, lt→ltb, ltb→lt}
+use borrow.Author.Tests.{eqb-false, ltb-true}
+use lib.Dec.{T, eqb, eqb→eq, ltb, lt→ltb, ltb→lt}
 use lib.ListN.{length, getD}
 use Rattle.rules.specs.Base.{if_then_else_, member, keep}
 use Rattle.rules.specs.Color.{RunnerConfig, exceeds}
@@ -19,12 +19,12 @@ use Rattle.rules.specs.Run.{stage1}
 use Rattle.rules.specs.Order.{anyOf, interior, start, turns}
 use Rattle.rules.specs.Ledger.{Held, enter, ledger}
 use Rattle.rules.specs.Claim.{bit, occurs, Stands, Holds}
-use Rattle.rules.proofs.Facts.{is-true, T-or, T-or-l, T-or-r, eqb-yes, eqb-no, keep-le, same-bool}
-use Rattle.rules.proofs.Basic.{Basic, Moved, three, plain-f, plain-o, plain-up, deepened-o, deepened-up, deepened-to, merge-t, merge-moved, deepen-f, deepen-t, deepen-moved}
-use Rattle.rules.proofs.Visits.{Going, Near, visit-cases-why, isolated-cases, eqb-is, eqb-ne, stands, root, k≢t, k-slot, t-slot, target-root, target-stands}
+use Rattle.rules.proofs.Facts.{is-true, T-or, T-or-l, T-or-r, eqb-yes, eqb-no, keep-le, same-bool, T-both, both-true, T-and}
+use Rattle.rules.proofs.Basic.{Basic, Moved, three, plain-f, plain-o, plain-up, deepened-o, deepened-up, deepened-to}
+use Rattle.rules.proofs.Visits.{Going, Near, visit-cases-why, isolated-cases, stands, root, k≢t, target-root, target-stands, merge-changes, deepen-changes, merge-to, deepen-from, deepen-to}
 use Rattle.rules.proofs.Early.{settled}
 use Rattle.rules.proofs.Slots.{stage1-slots}
-use Rattle.rules.proofs.Outputs.{In}
+use Rattle.rules.proofs.Outputs.{In, in-snoc}
 use Rattle.rules.proofs.Order.{Turning, turns-keep, start-turning}
 
 -- ---- members
@@ -53,27 +53,18 @@ in-member q (x ∷ xs) (inr i) = T-or-r (eqb q x) (member q xs) (in-member q xs 
 
 pub member-in : (q : ℕ) (xs : List ℕ) → T (member q xs) → In q xs
 member-in q [] t = t
-member-in q (x ∷ xs) t = go (eqb q x) refl t (member-in q xs)
-  where
-    go : (b : Bool) → eqb q x ≡ b → T (b || member q xs) → (T (member q xs) → In q xs) → (q ≡ x) ⊎ In q xs
-    go true e y ih = inl (eqb-is q x e)
-    go false e y ih = inr (ih y)
+member-in q (x ∷ xs) t = elim (T-or (eqb q x) (member q xs) t) [ inl y ↦ inl (eqb→eq q x y) | inr y ↦ inr (member-in q xs y) ]
 
 member-append : (q : ℕ) (xs ys : List ℕ) → T (member q (xs ++ ys)) → T (member q xs) ⊎ T (member q ys)
 member-append q [] ys t = inr t
-member-append q (x ∷ xs) ys t = go (eqb q x) t (member-append q xs ys)
-  where
-    go : (b : Bool) → T (b || member q (xs ++ ys)) → (T (member q (xs ++ ys)) → T (member q xs) ⊎ T (member q ys)) → T (b || member q xs) ⊎ T (member q ys)
-    go true y ih = inl tt
-    go false y ih = ih y
+member-append q (x ∷ xs) ys t = elim (T-or (eqb q x) (member q (xs ++ ys)) t) [
+  | inl y ↦ inl (T-or-l (eqb q x) (member q xs) y)
+  | inr y ↦ elim (member-append q xs ys y) [ inl z ↦ inl (T-or-r (eqb q x) (member q xs) z) | inr z ↦ inr z ]
+]
 
 any-some : (f : ℕ → Bool) (xs : List ℕ) → T (anyOf f xs) → (p : ℕ) × In p xs × T (f p)
 any-some f [] t = absurd t
-any-some f (x ∷ xs) t = go (T-or (f x) (anyOf f xs) t) (any-some f xs)
-  where
-    go : T (f x) ⊎ T (anyOf f xs) → (T (anyOf f xs) → (p : ℕ) × In p xs × T (f p)) → (p : ℕ) × In p (x ∷ xs) × T (f p)
-    go (inl y) ih = (x, inl refl, y)
-    go (inr y) ih = let r = ih y in (r .0, inr (r .1), r .2)
+any-some f (x ∷ xs) t = elim (T-or (f x) (anyOf f xs) t) [ inl y ↦ (x, inl refl, y) | inr y ↦ let r = any-some f xs y in (r .0, inr (r .1), r .2) ]
 
 some-any : (f : ℕ → Bool) (xs : List ℕ) (p : ℕ) → In p xs → T (f p) → T (anyOf f xs)
 some-any f [] p i t = i
@@ -104,12 +95,7 @@ module _ (o : RunnerConfig) (w h : ℕ) where
   unfolding allIn
   allIn-mono f g m [] t = tt
   allIn-mono f g m (off ∷ is) t = t
-  allIn-mono f g m (some i ∷ is) t = go (f i) (g i) (m i) t (allIn-mono f g m is)
-    where
-      go : (a b : Bool) → (T a → T b) → T (a && allIn f is) → (T (allIn f is) → T (allIn g is)) → T (b && allIn g is)
-      go true true n y ih = ih y
-      go true false n y ih = absurd (n tt)
-      go false b n y ih = absurd y
+  allIn-mono f g m (some i ∷ is) t = let v = T-both (f i) (allIn f is) t in T-and (g i) (allIn g is) (m i (v .0)) (allIn-mono f g m is (v .1))
 
   -- all in a, not all in a and outside b: one is in both
   allIn-diff : (a b : ℕ → Bool) (is : List (Option ℕ)) → T (allIn a is) → allIn (λ q. a q && not (b q)) is ≡ false → (q : ℕ) × T (a q) × T (b q)
@@ -127,12 +113,10 @@ module _ (o : RunnerConfig) (w h : ℕ) where
   hole-in : (s : State) (ks : List ℕ) (q : ℕ) → T (member q (holePixels s ks)) → (c : ℕ) × In c ks × T (member q (cluster s c .pixels))
   unfolding holePixels
   hole-in s [] q t = absurd t
-  hole-in s (k ∷ ks) q t = go (member-append q (cluster s k .pixels) (holePixels s ks) t) (hole-in s ks q)
-    where
-      go : T (member q (cluster s k .pixels)) ⊎ T (member q (holePixels s ks)) → (T (member q (holePixels s ks)) → (c : ℕ) × In c ks × T (member q (cluster s c .pixels)))
-          → (c : ℕ) × In c (k ∷ ks) × T (member q (cluster s c .pixels))
-      go (inl y) ih = (k, inl refl, y)
-      go (inr y) ih = let r = ih y in (r .0, inr (r .1), r .2)
+  hole-in s (k ∷ ks) q t = elim (member-append q (cluster s k .pixels) (holePixels s ks) t) [
+    | inl y ↦ (k, inl refl, y)
+    | inr y ↦ let r = hole-in s ks q y in (r .0, inr (r .1), r .2)
+  ]
 
   -- a pixel that c holds with its four neighbours
   abbrev pub Core : (ℕ → Bool) → Type 0
@@ -158,10 +142,6 @@ module _ (o : RunnerConfig) (w h : ℕ) where
         go (r .0) (r .1) (member (r .0) (holePixels s (cluster s k .holes))) refl
         (allIn (λ q. member q (cluster s k .pixels) && not (member q (holePixels s (cluster s k .holes)))) (sides w h (r .0))) refl (r .2)
       where
-        fst : (a b : Bool) → T (a && b) → T a
-        fst true b t = tt
-        fst false b t = t
-
         go : (p : ℕ) → In p (cluster s k .pixels) → (b : Bool) → member p (holePixels s (cluster s k .holes)) ≡ b
             → (c : Bool) → allIn (λ q. member q (cluster s k .pixels) && not (member q (holePixels s (cluster s k .holes)))) (sides w h p) ≡ c → not b && not c ≡ false → Core (ledger (s .log) k)
         go p i true e c z y =
@@ -172,7 +152,7 @@ module _ (o : RunnerConfig) (w h : ℕ) where
           p,
           subst T (member-held B k p) (in-member p (cluster s k .pixels) i),
           allIn-mono (λ q. member q (cluster s k .pixels) && not (member q (holePixels s (cluster s k .holes)))) (ledger (s .log) k)
-              (λ q t. subst T (member-held B k q) (fst (member q (cluster s k .pixels)) (not (member q (holePixels s (cluster s k .holes)))) t)) (sides w h p) (subst T (sym z) tt),
+              (λ q t. subst T (member-held B k q) (T-both (member q (cluster s k .pixels)) (not (member q (holePixels s (cluster s k .holes)))) t .0)) (sides w h p) (subst T (sym z) tt),
         )
         go p i false e false z y = absurd (true≢false y)
 
@@ -217,21 +197,15 @@ module _ (o : RunnerConfig) (w h : ℕ) where
 
     -- some pixel, said with the ledger
     pub boundary-core : ltb (boundary w h s k) (area (cluster s k)) ≡ true → Core (ledger (s .log) k)
-    boundary-core e = core-from (ltb→lt (boundary w h s k) (area (cluster s k)) (subst T (sym e) tt))
+    boundary-core e = core-from (ltb-true (boundary w h s k) (area (cluster s k)) e)
 
   -- why it deepened
   deepens-boundary : (s : State) (k t : ℕ) → 1 ≤ o .goodMinArea → deepens o w h s k t ≡ true → ltb (boundary w h s k) (area (cluster s k)) ≡ true
   unfolding deepens
-  deepens-boundary s k t m e = go (eqb (o .goodMinArea) 0) (eqb-no (o .goodMinArea) 0 (λ z. omega arith)) (eqb (o .hierarchical) 4294967295) (ltb (o .goodMinArea) (area (cluster s k))) (ltb (area (cluster s k)) (o .goodMaxArea))
-      (ltb (boundary w h s k) (area (cluster s k))) (exceeds (diff s k t) (o .deepenDiff)) e
-    where
-      go : (n : Bool) → n ≡ false → (a b c d f : Bool) → a && b && c && (n || d) && f ≡ true → d ≡ true
-      go true x a b c d f z = absurd (true≢false x)
-      go false x true true true true f z = refl
-      go false x true true true false f z = absurd (true≢false (sym z))
-      go false x true true false d f z = absurd (true≢false (sym z))
-      go false x true false c d f z = absurd (true≢false (sym z))
-      go false x false b c d f z = absurd (true≢false (sym z))
+  deepens-boundary s k t m e =
+      let f = eqb (o .hierarchical) 4294967295 && ltb (o .goodMinArea) (area (cluster s k)) && ltb (area (cluster s k)) (o .goodMaxArea) in
+      let d = eqb (o .goodMinArea) 0 || ltb (boundary w h s k) (area (cluster s k)) in
+      rw (eqb-no (o .goodMinArea) 0 (λ z. omega arith)) at (both-true f d (both-true (f && d) (exceeds (diff s k t) (o .deepenDiff)) e .0) .1)
 
   put-hollowed : (k : ℕ) (s : State) → Hollowed s → Hollowed (put k s)
   unfolding put
@@ -260,7 +234,7 @@ module _ (o : RunnerConfig) (w h : ℕ) where
     merge-hollowed = record {
       child = three k t (λ j. (c : ℕ) → Stands g′ j → In c (cluster u j .holes) → Child g′ u j c)
           (λ c z i. absurd (subst (λ x. T (x (z .0))) (plain-f (ledger (s .log)) k t d) (z .1)))
-          (λ c z i. let C = H .child t c (target-stands a k s G pos e t N) (subst (λ x. In c (x .holes)) (merge-t k t s d (k-slot a k s G pos e t N) (t-slot a k s G pos e t N)) i) in on t (λ x. d (sym x)) c C)
+          (λ c z i. let C = H .child t c (target-stands a k s G pos e t N) (subst (λ x. In c (x .holes)) (merge-to a k s G pos e t N) i) in on t (λ x. d (sym x)) c C)
           (λ j m n c z i. let C = H .child j c (z .0, subst (λ x. T (x (z .0))) (plain-o (ledger (s .log)) k t j m n) (z .1)) (subst (λ x. In c (x .holes)) (M .other j m n) i) in on j m c C);
     }
       where
@@ -271,7 +245,7 @@ module _ (o : RunnerConfig) (w h : ℕ) where
         g′ = enter (plain k t) (ledger (s .log))
 
         M : Moved k t s (merge k t s)
-        M = merge-moved k t s d (k-slot a k s G pos e t N) (t-slot a k s G pos e t N)
+        M = merge-changes a k s G pos e t N
 
         on : (j : ℕ) → j ≢ k → (c : ℕ) → Child (ledger (s .log)) s j c → Child g′ u j c
         on j m c C = child-kept (ledger (s .log)) g′ s u j c (M .other c (not-k j c C) (not-t j c C)) (plain-o (ledger (s .log)) k t c (not-k j c C) (not-t j c C)) (λ q. plain-up (ledger (s .log)) k t d j q m) C
@@ -280,8 +254,8 @@ module _ (o : RunnerConfig) (w h : ℕ) where
     unfolding deepen mergedTo withCluster deeper
     deepen-hollowed b r = record {
       child = three k t (λ j. (c : ℕ) → Stands g′ j → In c (cluster u j .holes) → Child g′ u j c)
-          (λ c z i. on k c (H .child k c (getD (cluster s k .pixels) 0 0, stands a k s G pos e) (subst (λ x. In c (x .holes)) (deepen-f k t s d (k-slot a k s G pos e t N) (t-slot a k s G pos e t N) b) i)))
-          (λ c z i. to c b refl (subst (λ x. In c (x .holes)) (deepen-t k t s d (k-slot a k s G pos e t N) (t-slot a k s G pos e t N) b) i))
+          (λ c z i. on k c (H .child k c (getD (cluster s k .pixels) 0 0, stands a k s G pos e) (subst (λ x. In c (x .holes)) (deepen-from a k s G pos e t N b) i)))
+          (λ c z i. to c b refl (subst (λ x. In c (x .holes)) (deepen-to a k s G pos e t N b) i))
           (λ j m n c z i. on j c (H .child j c (z .0, subst (λ x. T (x (z .0))) (deepened-o (ledger (s .log)) k t j n) (z .1)) (subst (λ x. In c (x .holes)) (M .other j m n) i)));
     }
       where
@@ -292,14 +266,14 @@ module _ (o : RunnerConfig) (w h : ℕ) where
         g′ = enter (deepened k t) (ledger (s .log))
 
         M : Moved k t s (deepen b k t s)
-        M = deepen-moved k t s d (k-slot a k s G pos e t N) (t-slot a k s G pos e t N) b
+        M = deepen-changes a k s G pos e t N b
 
         on : (j c : ℕ) → Child (ledger (s .log)) s j c → Child g′ u j c
         on j c C = child-kept (ledger (s .log)) g′ s u j c (M .other c (not-k j c C) (not-t j c C)) (deepened-o (ledger (s .log)) k t c (not-t j c C)) (λ q. deepened-up (ledger (s .log)) k t j q) C
 
         new : Child g′ u t k
         new = record {
-          inner = λ z. N .0 (sym (ap (λ x. x .mergedInto) (deepen-f k t s d (k-slot a k s G pos e t N) (t-slot a k s G pos e t N) b)) ∙ z);
+          inner = λ z. N .0 (sym (ap (λ x. x .mergedInto) (deepen-from a k s G pos e t N b)) ∙ z);
           held = λ q x. deepened-to (ledger (s .log)) k t q (subst (λ y. T (y q)) (deepened-o (ledger (s .log)) k t k d) x);
           core = subst Core (sym (deepened-o (ledger (s .log)) k t k d)) r;
         }
@@ -307,22 +281,8 @@ module _ (o : RunnerConfig) (w h : ℕ) where
         old : (c : ℕ) → In c (cluster s t .holes) → Child g′ u t c
         old c i = on t c (H .child t c (target-stands a k s G pos e t N) i)
 
-        last : (c : ℕ) (xs : List ℕ) → In c (xs ++ (k ∷ [])) → In c xs ⊎ (c ≡ k)
-        last c [] (inl x) = inr x
-        last c [] (inr i) = absurd i
-        last c (x ∷ xs) (inl y) = inl (inl y)
-        last c (x ∷ xs) (inr i) = step (last c xs i)
-          where
-            step : In c xs ⊎ (c ≡ k) → In c (x ∷ xs) ⊎ (c ≡ k)
-            step (inl z) = inl (inr z)
-            step (inr z) = inr z
-
-        either : (c : ℕ) → In c (cluster s t .holes) ⊎ (c ≡ k) → Child g′ u t c
-        either c (inl i) = old c i
-        either c (inr x) = subst (Child g′ u t) (sym x) new
-
         to : (c : ℕ) (y : Bool) → b ≡ y → In c (if y then cluster s t .holes ++ (k ∷ []) else cluster s t .holes) → Child g′ u t c
-        to c true x i = either c (last c (cluster s t .holes) i)
+        to c true x i = elim (in-snoc c k (cluster s t .holes) i) [ inl i ↦ old c i | inr x ↦ subst (Child g′ u t) (sym x) new ]
         to c false x i = old c i
 
   -- every visit keeps it
@@ -354,4 +314,4 @@ deepens-interior o w h s B H k t =
   where
     pick : (b : Bool) → eqb (o .goodMinArea) 0 ≡ b → b || ltb (boundary w h s k) (area (cluster s k)) ≡ b || interior w h s k
     pick true e = refl
-    pick false e = boundary-interior o w h s B (H (let n : o .goodMinArea ≢ 0 = eqb-ne (o .goodMinArea) 0 e in omega arith)) k
+    pick false e = boundary-interior o w h s B (H (let n : o .goodMinArea ≢ 0 = eqb-false (o .goodMinArea) 0 e in omega arith)) k

@@ -2,12 +2,12 @@
 use mathlib.Core.Path.{_≡_, refl, sym, ap, ap₂, _∙_, subst}
 use mathlib.Core.Bool.{Bool, true, false, not, _&&_, _||_}
 use mathlib.Core.List.{List, [], _∷_}
-use mathlib.Core.Option.{Option, some}
-use mathlib.Core.Option.{none as off}
+use mathlib.Core.Option.{Option, some, none as off}
 use Prim.Native.Nat.{ℕ, suc, _+_, _-_, _*_, _/_, _%_, _≤_, _<_}
 use native.Mathlib.Nat.{div-lt-iff-lt-mul, mul-comm, mul-suc, mul-le-mul-left, div-add-mod}
 use native.Mathlib.Omega.{arith}
-use lib.Dec.{T, eqb, ltb, leb, eqb→eq, ltb→lt}
+use borrow.Author.Tests.{ltb-true}
+use lib.Dec.{T, eqb, ltb, leb, eqb→eq}
 use Rattle.rules.specs.Base.{if_then_else_, member}
 use Rattle.rules.specs.Grid.{up, down, left, right, sides}
 use Rattle.rules.specs.Color.{RunnerConfig, isDiscard}
@@ -23,8 +23,7 @@ use Rattle.rules.specs.Ranges.{Below}
 use Rattle.rules.specs.Demand3.{Discarded, Agrees}
 use Rattle.rules.proofs.Facts.{is-false, eqb-yes}
 use Rattle.rules.proofs.Visits.{Going}
-use Rattle.rules.proofs.Connected.{AllSome}
-use Rattle.rules.proofs.Connected.{Some as Sided}
+use Rattle.rules.proofs.Connected.{AllSome, Some as Sided}
 use Rattle.rules.proofs.Links.{after-none}
 use Rattle.rules.proofs.Ranges.{pixels-below}
 use Rattle.rules.proofs.Moments.{compared, Keeps, visit-keeps, start-keeps}
@@ -41,7 +40,7 @@ sides-fit w h p l = (ups (leb w p), (downs (ltb (p + w) (w * h)) refl, (lefts (l
     ups false = tt
 
     downs : (b : Bool) → ltb (p + w) (w * h) ≡ b → Sided (λ q. q < w * h) (if b then some (p + w) else off)
-    downs true e = ltb→lt (p + w) (w * h) (subst T (sym e) tt)
+    downs true e = ltb-true (p + w) (w * h) e
     downs false e = tt
 
     lefts : (b : Bool) → Sided (λ q. q < w * h) (if b then some (p - 1) else off)
@@ -50,7 +49,7 @@ sides-fit w h p l = (ups (leb w p), (downs (ltb (p + w) (w * h)) refl, (lefts (l
 
     rights : (b : Bool) → ltb (p % w + 1) w ≡ b → Sided (λ q. q < w * h) (if b then some (p + 1) else off)
     rights true e =
-        let a : p % w + 1 < w = ltb→lt (p % w + 1) w (subst T (sym e) tt) in
+        let a : p % w + 1 < w = ltb-true (p % w + 1) w e in
         let row : p / w < h = div-lt-iff-lt-mul {k = w} {x = p} {y = h} (omega arith) .1 (omega (arith, mul-comm w h)) in
         let b : w * suc (p / w) ≤ w * h = mul-le-mul-left w row in
         omega (arith, div-add-mod p w, mul-suc w (p / w))

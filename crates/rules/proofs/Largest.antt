@@ -1,7 +1,7 @@
 -- "No larger area is listed" is "no slot has a larger pixel count".
-use mathlib.Core.Path.{_≡_, refl, sym, ap, _∙_, subst}
-use mathlib.Core.Logic.{_≢_, _⊎_, inl, inr}
-use mathlib.Core.Bool.{Bool, true, false, _&&_}
+use mathlib.Core.Path.{_≡_, refl, ap, _∙_, subst}
+use mathlib.Core.Logic.{_⊎_, inl, inr}
+use mathlib.Core.Bool.{Bool, true, false}
 use mathlib.Core.List.{List, [], _∷_}
 use Prim.Native.Nat.{ℕ, zero, suc, _+_, _*_, _≤_, _<_, max}
 use native.Mathlib.Decide.{ℕ-discrete, decLt}
@@ -10,19 +10,19 @@ use lib.Dec.{T, eqb, ltb, leb, leb→le, le→leb}
 use lib.ListN.{length, getD, length-append}
 use Rattle.rules.specs.Base.{if_then_else_, noneAbove, insert}
 use Rattle.rules.specs.Color.{RunnerConfig}
-use Rattle.rules.specs.State.{State, Cluster, newCluster, cluster, label, area, emptied, withCluster, mergedTo, deeper, withResidue, put, merge, deepen}
+use Rattle.rules.specs.State.{State, Cluster, newCluster, cluster, label, area, emptied, mergedTo, withResidue, put, merge, deepen}
 use Rattle.rules.specs.Stage2.{areasOf, prepareStage2, visit}
 use Rattle.rules.specs.Run.{stage1}
 use Rattle.rules.specs.Ledger.{ledger}
 use Rattle.rules.specs.Claim.{Stands}
 use Rattle.rules.specs.Order.{largest, start, turns}
-use Rattle.rules.proofs.Facts.{countOf-some, countOf-none, same-bool}
-use Rattle.rules.proofs.Basic.{Basic, Moved, three, merge-f, merge-moved, deepen-f, deepen-moved}
-use Rattle.rules.proofs.Visits.{Going, Near, visit-cases, isolated-cases, k≢t, k-slot, t-slot}
+use Rattle.rules.proofs.Facts.{countOf-some, countOf-none, same-bool, T-both, T-and}
+use Rattle.rules.proofs.Basic.{Basic, Moved, three}
+use Rattle.rules.proofs.Visits.{Going, Near, visit-cases, isolated-cases, merge-changes, deepen-changes, merge-from, deepen-from}
 use Rattle.rules.proofs.Early.{settled}
 use Rattle.rules.proofs.Whole.{early}
 use Rattle.rules.proofs.Outputs.{In, area-countOf}
-use Rattle.rules.proofs.Listed.{Listed, put-listed, merge-listed, deepen-listed, prepareStage2-listed}
+use Rattle.rules.proofs.Listed.{Listed, put-listed, merge-listed, deepen-listed, prepareStage2-listed, merge-lists, deepen-lists}
 use Rattle.rules.proofs.Order.{Turning, turns-keep, start-turning}
 
 pub insert-from : (x a : ℕ) (xs : List ℕ) → In x (insert a xs) → (x ≡ a) ⊎ In x xs
@@ -30,33 +30,21 @@ insert-from x a [] (inl e) = inl e
 insert-from x a [] (inr i) = absurd i
 insert-from x a (y ∷ ys) i = pick (ltb a y) (eqb a y) i (insert-from x a ys)
   where
-    on : (x ≡ a) ⊎ In x ys → (x ≡ a) ⊎ ((x ≡ y) ⊎ In x ys)
-    on (inl e) = inl e
-    on (inr z) = inr (inr z)
-
     pick : (b c : Bool) → In x (if b then a ∷ y ∷ ys else (if c then y ∷ ys else y ∷ insert a ys)) → (In x (insert a ys) → (x ≡ a) ⊎ In x ys) → (x ≡ a) ⊎ ((x ≡ y) ⊎ In x ys)
     pick true c (inl e) ih = inl e
     pick true c (inr z) ih = inr z
     pick false true z ih = inr z
     pick false false (inl e) ih = inr (inl e)
-    pick false false (inr z) ih = on (ih z)
+    pick false false (inr z) ih = elim (ih z) [ inl e ↦ inl e | inr z ↦ inr (inr z) ]
 
 areas-from : (x : ℕ) (cs : List Cluster) (l : List ℕ) → In x (areasOf cs l) → In x l ⊎ ((j : ℕ) × (x ≡ area (getD cs j newCluster)))
 unfolding areasOf
 areas-from x [] l i = inl i
-areas-from x (c ∷ cs) l i = on (areas-from x cs (if eqb (area c) 0 then l else insert (area c) l) i)
+areas-from x (c ∷ cs) l i = elim (areas-from x cs (if eqb (area c) 0 then l else insert (area c) l) i) [ inl z ↦ pick (eqb (area c) 0) z | inr z ↦ inr (suc (z .0), z .1) ]
   where
-    new : (x ≡ area c) ⊎ In x l → In x l ⊎ ((j : ℕ) × (x ≡ area (getD (c ∷ cs) j newCluster)))
-    new (inl e) = inr (0, e)
-    new (inr z) = inl z
-
     pick : (b : Bool) → In x (if b then l else insert (area c) l) → In x l ⊎ ((j : ℕ) × (x ≡ area (getD (c ∷ cs) j newCluster)))
     pick true z = inl z
-    pick false z = new (insert-from x (area c) l z)
-
-    on : In x (if eqb (area c) 0 then l else insert (area c) l) ⊎ ((j : ℕ) × (x ≡ area (getD cs j newCluster))) → In x l ⊎ ((j : ℕ) × (x ≡ area (getD (c ∷ cs) j newCluster)))
-    on (inl z) = pick (eqb (area c) 0) z
-    on (inr z) = inr (suc (z .0), z .1)
+    pick false z = elim (insert-from x (area c) l z) [ inl e ↦ inr (0, e) | inr z ↦ inl z ]
 
 -- ---- the largest
 
@@ -91,11 +79,12 @@ module _ (k t : ℕ) (s u : State) (M : Moved k t s u) where
       (λ j m n. (j, omega (arith, ap area (M .other j m n))))
 
   moved-topped : Topped s → u .listed ≡ insert (area (cluster u t)) (s .listed) → Topped u
-  moved-topped L e = record { tops = λ x i. go x (insert-from x (area (cluster u t)) (s .listed) (subst (In x) e i)) }
-    where
-      go : (x : ℕ) → (x ≡ area (cluster u t)) ⊎ In x (s .listed) → (j : ℕ) × (x ≤ area (cluster u j))
-      go x (inl z) = (t, omega arith)
-      go x (inr z) = let y = L .tops x z in let i = above (y .0) in (i .0, omega (arith, y .1, i .1))
+  moved-topped L e = record {
+    tops = λ x i. elim (insert-from x (area (cluster u t)) (s .listed) (subst (In x) e i)) [
+      | inl z ↦ (t, omega arith)
+      | inr z ↦ let y = L .tops x z in let i = above (y .0) in (i .0, omega (arith, y .1, i .1))
+    ];
+  }
 
   -- the largest after a merge: the one before, or the target's new count
   pub moved-largest : area (cluster u k) ≤ area (cluster s k) → largest (u .clusters) ≡ max (largest (s .clusters)) (area (cluster u t))
@@ -111,38 +100,23 @@ module _ (k t : ℕ) (s u : State) (M : Moved k t s u) where
 module _ {image : List ℕ} {size : ℕ} (a k : ℕ) (s : State) (G : Going image size a k s) (pos : 0 < a) (e : area (cluster s k) ≡ a) (t : ℕ) (N : Near s (label s (getD (cluster s k .pixels) 0 0)) t) where
   pub merge-largest : largest (merge k t s .clusters) ≡ max (largest (s .clusters)) (area (cluster (merge k t s) t))
   unfolding emptied
-  merge-largest = let d = k≢t a k s G pos e t N in let x = k-slot a k s G pos e t N in let y = t-slot a k s G pos e t N in
-      moved-largest k t s (merge k t s) (merge-moved k t s d x y) (omega (arith, ap area (merge-f k t s d x y)))
+  merge-largest = moved-largest k t s (merge k t s) (merge-changes a k s G pos e t N) (omega (arith, ap area (merge-from a k s G pos e t N)))
 
   pub deepen-largest : (b : Bool) → largest (deepen b k t s .clusters) ≡ max (largest (s .clusters)) (area (cluster (deepen b k t s) t))
   unfolding mergedTo
-  deepen-largest b = let d = k≢t a k s G pos e t N in let x = k-slot a k s G pos e t N in let y = t-slot a k s G pos e t N in
-      moved-largest k t s (deepen b k t s) (deepen-moved k t s d x y b) (omega (arith, ap area (deepen-f k t s d x y b)))
+  deepen-largest b = moved-largest k t s (deepen b k t s) (deepen-changes a k s G pos e t N b) (omega (arith, ap area (deepen-from a k s G pos e t N b)))
 
 prepareStage2-topped : (s : State) → Topped (prepareStage2 s)
 unfolding prepareStage2 withResidue
-prepareStage2-topped s = record { tops = λ x i. go x (areas-from x (s .clusters) [] i) }
-  where
-    go : (x : ℕ) → In x [] ⊎ ((j : ℕ) × (x ≡ area (cluster s j))) → (j : ℕ) × (x ≤ area (cluster (prepareStage2 s) j))
-    go x (inl i) = absurd i
-    go x (inr z) = (z .0, omega (arith, z .1, ap area (settled s (z .0))))
+prepareStage2-topped s = record { tops = λ x i. elim (areas-from x (s .clusters) [] i) [ inl i ↦ absurd i | inr z ↦ (z .0, omega (arith, z .1, ap area (settled s (z .0)))) ] }
 
 module _ {image : List ℕ} {size : ℕ} where
   -- both are kept by every visit
   pub visit-listed : (o : RunnerConfig) (w h a k : ℕ) (s : State) → Going image size a k s → 0 < a → area (cluster s k) ≡ a → Listed s × Topped s → Listed (visit o w h a k s) × Topped (visit o w h a k s)
-  unfolding merge deepen emptied mergedTo withCluster withResidue deeper
   visit-listed o w h a k s G pos e R =
       visit-cases o w h a k s (λ u. Listed u × Topped u) (λ x. R) (λ z l. out) (λ z l n. isolated-cases o w h a k s (λ u. Listed u × Topped u) out R)
-      (λ z l t N. (
-        merge-listed a k s G (R .0) pos e t N,
-        moved-topped k t s (merge k t s) (merge-moved k t s (k≢t a k s G pos e t N) (k-slot a k s G pos e t N) (t-slot a k s G pos e t N)) (R .1)
-            (ap (λ x. insert x (s .listed)) (sym (ap length (merge-moved k t s (k≢t a k s G pos e t N) (k-slot a k s G pos e t N) (t-slot a k s G pos e t N) .t-pixels)))),
-      ))
-      (λ z l t N b. (
-        deepen-listed a k s G (R .0) pos e t N b,
-        moved-topped k t s (deepen b k t s) (deepen-moved k t s (k≢t a k s G pos e t N) (k-slot a k s G pos e t N) (t-slot a k s G pos e t N) b) (R .1)
-            (ap (λ x. insert x (s .listed)) (sym (ap length (deepen-moved k t s (k≢t a k s G pos e t N) (k-slot a k s G pos e t N) (t-slot a k s G pos e t N) b .t-pixels)))),
-      ))
+      (λ z l t N. (merge-listed a k s G (R .0) pos e t N, moved-topped k t s (merge k t s) (merge-changes a k s G pos e t N) (R .1) (merge-lists a k s G pos e t N)))
+      (λ z l t N b. (deepen-listed a k s G (R .0) pos e t N b, moved-topped k t s (deepen b k t s) (deepen-changes a k s G pos e t N b) (R .1) (deepen-lists a k s G pos e t N b)))
     where
       out : Listed (put k s) × Topped (put k s)
       out = (put-listed k s (R .0), put-topped k s (R .1))
@@ -156,22 +130,14 @@ module _ {image : List ℕ} {size : ℕ} where
   none-above o w h a k s G L P = same-bool (noneAbove a (s .listed)) (leb (largest (s .clusters)) a) (λ t. le→leb (largest (s .clusters)) a (largest-le (s .clusters) a (down t)))
       (λ t. back (s .listed) (λ x i. let y = P .tops x i in omega (arith, y .1, largest-ge (s .clusters) (y .0), leb→le (largest (s .clusters)) a t)))
     where
-      fst : (b c : Bool) → T (b && c) → T b × T c
-      fst true c t = (tt, t)
-      fst false c t = absurd t
-
-      both : (b c : Bool) → T b → T c → T (b && c)
-      both true c x y = y
-      both false c x y = x
-
       below : (l : List ℕ) → T (noneAbove a l) → (x : ℕ) → In x l → x ≤ a
       below [] t x i = absurd i
-      below (y ∷ ys) t x (inl e) = let z : y ≤ a = leb→le y a (fst (leb y a) (noneAbove a ys) t .0) in omega arith
-      below (y ∷ ys) t x (inr i) = below ys (fst (leb y a) (noneAbove a ys) t .1) x i
+      below (y ∷ ys) t x (inl e) = let z : y ≤ a = leb→le y a (T-both (leb y a) (noneAbove a ys) t .0) in omega arith
+      below (y ∷ ys) t x (inr i) = below ys (T-both (leb y a) (noneAbove a ys) t .1) x i
 
       back : (l : List ℕ) → ((x : ℕ) → In x l → x ≤ a) → T (noneAbove a l)
       back [] f = tt
-      back (y ∷ ys) f = both (leb y a) (noneAbove a ys) (le→leb y a (f y (inl refl))) (back ys (λ x i. f x (inr i)))
+      back (y ∷ ys) f = T-and (leb y a) (noneAbove a ys) (le→leb y a (f y (inl refl))) (back ys (λ x i. f x (inr i)))
 
       down : T (noneAbove a (s .listed)) → (j : ℕ) → area (cluster s j) ≤ a
       down t j = go (decLt 0 (area (cluster s j))) (ℕ-discrete (cluster s j .mergedInto) 0)

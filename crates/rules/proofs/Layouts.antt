@@ -1,5 +1,6 @@
 -- How lists lie one after another, and that the layout of a state holds it.
 use mathlib.Core.Path.{_≡_, refl, sym, ap, _∙_, subst}
+use mathlib.Core.Logic.{by-cases}
 use mathlib.Core.List.{List, [], _∷_, _++_, map, append-assoc, append-nil}
 use Prim.Native.Nat.{ℕ, zero, suc, _+_, _*_, _≤_, _<_}
 use native.Mathlib.Decide.{ℕ-discrete}
@@ -29,11 +30,9 @@ upTo-length (suc n) = length-append (upTo n) (n ∷ []) ∙ omega (arith, upTo-l
 pub upTo-at : (n p : ℕ) → p < n → getD (upTo n) p 0 ≡ p
 unfolding upTo
 upTo-at zero p l = absurd (omega arith)
-upTo-at (suc n) p l = go (ℕ-discrete p n) (upTo-at n p)
-  where
-    go : Dec (p ≡ n) → (p < n → getD (upTo n) p 0 ≡ p) → getD (upTo n ++ (n ∷ [])) p 0 ≡ p
-    go (yes z) ih = subst (λ x. getD (upTo n ++ (n ∷ [])) x 0 ≡ x) (sym z) (subst (λ x. getD (upTo n ++ (n ∷ [])) x 0 ≡ n) (upTo-length n) (getD-append-seam (upTo n) n [] 0))
-    go (no z) ih = List·getD-append (upTo n) (n ∷ []) 0 p (omega (arith, upTo-length n)) ∙ ih (omega arith)
+upTo-at (suc n) p l = by-cases (ℕ-discrete p n)
+    (λ z. subst (λ x. getD (upTo n ++ (n ∷ [])) x 0 ≡ x) (sym z) (subst (λ x. getD (upTo n ++ (n ∷ [])) x 0 ≡ n) (upTo-length n) (getD-append-seam (upTo n) n [] 0)))
+    (λ z. List·getD-append (upTo n) (n ∷ []) 0 p (omega (arith, upTo-length n)) ∙ upTo-at n p (omega arith))
 
 -- one number each
 getD-any : (xs : List ℕ) (i d e : ℕ) → i < length xs → getD xs i d ≡ getD xs i e

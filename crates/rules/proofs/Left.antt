@@ -4,7 +4,8 @@ use mathlib.Core.Bool.{Bool, true, false}
 use mathlib.Core.List.{List}
 use Prim.Native.Nat.{ℕ, _*_, _≤_, _<_}
 use native.Mathlib.Omega.{arith}
-use lib.Dec.{T, ltb, eqb, ltb→lt}
+use borrow.Author.Tests.{eqb-true, ltb-false, ltb-true}
+use lib.Dec.{ltb, eqb}
 use lib.ListN.{length, getD, drop, List·getD-append, List·getD-eq-default}
 use Rattle.rules.specs.Base.{if_then_else_}
 use Rattle.rules.specs.Color.{RunnerConfig}
@@ -16,8 +17,6 @@ use Rattle.rules.specs.Calls.{Buffers, Ran, RanAndPainted, leaves, accep
 use Rattle.rules.specs.Ledger.{Held, ledger}
 use Rattle.rules.specs.Claim.{Stands}
 use Rattle.rules.specs.Demand3.{View, stateView, bufferView, AgreesIn, Agrees, Demand3Left}
-use Rattle.rules.proofs.Visits.{eqb-is}
-use Rattle.rules.proofs.Accepted.{not-below}
 use Rattle.rules.proofs.Moments.{run-returned, run-width}
 use Rattle.rules.proofs.Pictures.{run-pictured}
 use Rattle.rules.proofs.Layouts.{leaves-lies}
@@ -50,8 +49,8 @@ module _ {o : RunnerConfig} {w h : ℕ} {image : List ℕ} {held : Held} {n m : 
   slot-same f k x same = go (ltb k n) refl
     where
       go : (b : Bool) → ltb k n ≡ b → (if b then x else f newCluster) ≡ f (cluster s k)
-      go true z = same (ltb→lt k n (subst T (sym z) tt))
-      go false z = sym (ap f (List·getD-eq-default (s .clusters) newCluster (omega (arith, L .slots, not-below k n z))))
+      go true z = same (ltb-true k n z)
+      go false z = sym (ap f (List·getD-eq-default (s .clusters) newCluster (omega (arith, L .slots, ltb-false k n z))))
 
   pub residue-same : (labels : List ℕ) (k : ℕ) → bufferView n labels ls tb .residue k ≡ stateView s .residue k
   residue-same labels k = slot-same (λ c. c .residue) k (residueOf tb k) (slot-residue s A L k)
@@ -88,7 +87,7 @@ zero-passed : {A : Type 0} (answer : A → ℕ) (number : ℕ) (accepted refused
 zero-passed answer number accepted refused same = go (eqb number 0) refl
   where
     go : (b : Bool) → eqb number 0 ≡ b → answer (if b then accepted else refused) ≡ 0 → number ≡ 0
-    go true z e = eqb-is number 0 z
+    go true z e = eqb-true number 0 z
     go false z e = sym same ∙ e
 
 -- run and painting in one call

@@ -2,20 +2,21 @@
 use mathlib.Core.Path.{_≡_, refl, sym, ap, _∙_, subst}
 use mathlib.Core.Logic.{_≢_, _⊎_, inl, inr}
 use mathlib.Core.Bool.{Bool, true, false}
-use mathlib.Core.List.{List, [], _∷_, _++_}
-use Prim.Native.Nat.{ℕ, zero, suc, _+_, _<_}
+use mathlib.Core.List.{List, [], _∷_}
+use Prim.Native.Nat.{ℕ, zero, suc, _<_}
 use native.Mathlib.Omega.{arith}
+use borrow.Author.Tests.{eqb-true}
 use lib.Dec.{T, eqb, ltb}
 use lib.ListN.{length, getD}
 use Rattle.rules.specs.Base.{if_then_else_, times, insert}
 use Rattle.rules.specs.Color.{RunnerConfig}
-use Rattle.rules.specs.State.{State, Cluster, newCluster, cluster, label, area, withCluster, mergedTo, deeper, withResidue, put, merge, deepen, plain, deepened}
+use Rattle.rules.specs.State.{State, Cluster, newCluster, cluster, label, area, withCluster, mergedTo, deeper, withResidue, put, merge, deepen}
 use Rattle.rules.specs.Stage2.{areasOf, prepareStage2, visit, pass, passes}
-use Rattle.rules.specs.Ledger.{Held, enter, ledger}
+use Rattle.rules.specs.Ledger.{ledger}
 use Rattle.rules.specs.Claim.{Stands}
 use Rattle.rules.proofs.Facts.{eqb-no}
-use Rattle.rules.proofs.Basic.{Moved, three, plain-down, plain-o, deepened-o, merge-moved, deepen-f, deepen-moved}
-use Rattle.rules.proofs.Visits.{Going, Near, visit-cases, isolated-cases, visit-going, pass-going, times-keep, eqb-is, stands, root, k≢t, k-slot, t-slot}
+use Rattle.rules.proofs.Basic.{Moved, three, plain-down, plain-o, deepened-o}
+use Rattle.rules.proofs.Visits.{Going, Near, visit-cases, isolated-cases, stands, root, k≢t, merge-changes, deepen-changes, deepen-from, passes-keep}
 use Rattle.rules.proofs.Early.{Early, settled}
 use Rattle.rules.proofs.Outputs.{In, area-pos}
 
@@ -35,7 +36,7 @@ insert-new a (y ∷ ys) = pick (ltb a y) (eqb a y) refl (insert-new a ys)
   where
     pick : (b c : Bool) → eqb a y ≡ c → In a (insert a ys) → In a (if b then a ∷ y ∷ ys else (if c then y ∷ ys else y ∷ insert a ys))
     pick true c e ih = inl refl
-    pick false true e ih = inl (eqb-is a y e)
+    pick false true e ih = inl (eqb-true a y e)
     pick false false e ih = inr ih
 
 areas-old : (x : ℕ) (cs : List Cluster) (l : List ℕ) → In x l → In x (areasOf cs l)
@@ -53,7 +54,7 @@ areas-in k [] l p = absurd (omega arith)
 areas-in zero (c ∷ cs) l p = areas-old (area c) cs (if eqb (area c) 0 then l else insert (area c) l) (pick (eqb (area c) 0) refl)
   where
     pick : (b : Bool) → eqb (area c) 0 ≡ b → In (area c) (if b then l else insert (area c) l)
-    pick true e = let z : area c ≡ 0 = eqb-is (area c) 0 e in absurd (omega arith)
+    pick true e = let z : area c ≡ 0 = eqb-true (area c) 0 e in absurd (omega arith)
     pick false e = insert-new (area c) l
 areas-in (suc k) (c ∷ cs) l p = areas-in k cs (if eqb (area c) 0 then l else insert (area c) l) p
 
@@ -65,71 +66,47 @@ unfolding put
 put-listed k s L = record { areas = L .areas }
 
 module _ {image : List ℕ} {size : ℕ} where
+  -- the new area of t is listed
+  module _ (a k : ℕ) (s : State) (G : Going image size a k s) (pos : 0 < a) (e : area (cluster s k) ≡ a) (t : ℕ) (N : Near s (label s (getD (cluster s k .pixels) 0 0)) t) where
+    pub merge-lists : merge k t s .listed ≡ insert (area (cluster (merge k t s) t)) (s .listed)
+    unfolding merge withCluster withResidue
+    merge-lists = ap (λ x. insert x (s .listed)) (sym (ap length (merge-changes a k s G pos e t N .t-pixels)))
+
+    pub deepen-lists : (b : Bool) → deepen b k t s .listed ≡ insert (area (cluster (deepen b k t s) t)) (s .listed)
+    unfolding deepen withCluster deeper
+    deepen-lists b = ap (λ x. insert x (s .listed)) (sym (ap length (deepen-changes a k s G pos e t N b .t-pixels)))
+
   module _ (a k : ℕ) (s : State) (G : Going image size a k s) (L : Listed s) (pos : 0 < a) (e : area (cluster s k) ≡ a) (t : ℕ) (N : Near s (label s (getD (cluster s k .pixels) 0 0)) t) where
-    d : k ≢ t
-    d = k≢t a k s G pos e t N
+    -- t's new area is listed, and what else stands is as it was
+    moved-listed : {u : State} → Moved k t s u → u .listed ≡ insert (area (cluster u t)) (s .listed) → (Stands (ledger (u .log)) k → cluster u k .mergedInto ≡ 0 → ⊥)
+        → ((j : ℕ) → j ≢ k → j ≢ t → Stands (ledger (u .log)) j → Stands (ledger (s .log)) j) → Listed u
+    moved-listed {u} M new gone old = record {
+      areas = three k t (λ j. Stands (ledger (u .log)) j → cluster u j .mergedInto ≡ 0 → In (area (cluster u j)) (u .listed))
+          (λ z r. absurd (gone z r))
+          (λ z r. subst (In (area (cluster u t))) (sym new) (insert-new (area (cluster u t)) (s .listed)))
+          (λ j m n z r. subst (In (area (cluster u j))) (sym new) (insert-old (area (cluster u j)) (area (cluster u t)) (s .listed)
+          (subst (λ c. In (area c) (s .listed)) (sym (M .other j m n)) (L .areas j (old j m n z) (sym (ap (λ c. c .mergedInto) (M .other j m n)) ∙ r)))));
+    }
 
     pub merge-listed : Listed (merge k t s)
-    unfolding merge withCluster withResidue
-    merge-listed = record {
-      areas = three k t (λ j. Stands h′ j → cluster s′ j .mergedInto ≡ 0 → In (area (cluster s′ j)) (insert new (s .listed)))
-          (λ z r. absurd (plain-down (ledger (s .log)) k t d k (z .0) (z .1) .0 refl))
-          (λ z r. subst (λ x. In x (insert new (s .listed))) (sym (ap length (M .t-pixels))) (insert-new new (s .listed)))
-          (λ j u v z r. insert-old (area (cluster s′ j)) new (s .listed) (subst (λ c. In (area c) (s .listed)) (sym (M .other j u v))
-          (L .areas j (z .0, subst (λ g. T (g (z .0))) (plain-o (ledger (s .log)) k t j u v) (z .1)) (sym (ap (λ c. c .mergedInto) (M .other j u v)) ∙ r))));
-    }
-      where
-        s′ : State
-        s′ = merge k t s
-
-        h′ : Held
-        h′ = enter (plain k t) (ledger (s .log))
-
-        new : ℕ
-        new = length (cluster s t .pixels ++ cluster s k .pixels)
-
-        M : Moved k t s (merge k t s)
-        M = merge-moved k t s d (k-slot a k s G pos e t N) (t-slot a k s G pos e t N)
+    unfolding merge
+    merge-listed = moved-listed (merge-changes a k s G pos e t N) (merge-lists a k s G pos e t N) (λ z r. plain-down (ledger (s .log)) k t (k≢t a k s G pos e t N) k (z .0) (z .1) .0 refl)
+        (λ j m n z. (z .0, subst (λ g. T (g (z .0))) (plain-o (ledger (s .log)) k t j m n) (z .1)))
 
     pub deepen-listed : (hollow : Bool) → Listed (deepen hollow k t s)
-    unfolding deepen withCluster deeper mergedTo
-    deepen-listed hollow = record {
-      areas = three k t (λ j. Stands h′ j → cluster s′ j .mergedInto ≡ 0 → In (area (cluster s′ j)) (insert new (s .listed)))
-          (λ z r. absurd (N .0 (sym (ap (λ c. c .mergedInto) (deepen-f k t s d (k-slot a k s G pos e t N) (t-slot a k s G pos e t N) hollow)) ∙ r)))
-          (λ z r. subst (λ x. In x (insert new (s .listed))) (sym (ap length (M .t-pixels))) (insert-new new (s .listed)))
-          (λ j u v z r. insert-old (area (cluster s′ j)) new (s .listed) (subst (λ c. In (area c) (s .listed)) (sym (M .other j u v))
-          (L .areas j (z .0, subst (λ g. T (g (z .0))) (deepened-o (ledger (s .log)) k t j v) (z .1)) (sym (ap (λ c. c .mergedInto) (M .other j u v)) ∙ r))));
-    }
-      where
-        s′ : State
-        s′ = deepen hollow k t s
-
-        h′ : Held
-        h′ = enter (deepened k t) (ledger (s .log))
-
-        new : ℕ
-        new = length (cluster s t .pixels ++ cluster s k .pixels)
-
-        M : Moved k t s (deepen hollow k t s)
-        M = deepen-moved k t s d (k-slot a k s G pos e t N) (t-slot a k s G pos e t N) hollow
+    unfolding deepen mergedTo
+    deepen-listed hollow = moved-listed (deepen-changes a k s G pos e t N hollow) (deepen-lists a k s G pos e t N hollow)
+        (λ z r. N .0 (sym (ap (λ c. c .mergedInto) (deepen-from a k s G pos e t N hollow)) ∙ r))
+        (λ j m n z. (z .0, subst (λ g. T (g (z .0))) (deepened-o (ledger (s .log)) k t j n) (z .1)))
 
   module _ (o : RunnerConfig) (w h : ℕ) where
-    pub pass-listed : (a : ℕ) (s : State) → Going image size (suc a) 0 s × Listed s → Going image size (suc (suc a)) 0 (pass o w h (suc a) s) × Listed (pass o w h (suc a) s)
-    unfolding pass
-    pass-listed a s R = (
-      pass-going o w h a s (R .0),
-      times-keep (λ k u. Going image size (suc a) k u × Listed u) (visit o w h (suc a))
-          (λ k u H. (
-            visit-going o w h (suc a) k u (H .0) (omega arith),
-            visit-cases o w h (suc a) k u Listed (λ x. H .1) (λ e l. put-listed k u (H .1)) (λ e l z. isolated-cases o w h (suc a) k u Listed (put-listed k u (H .1)) (H .1))
-                (λ e l t N. merge-listed (suc a) k u (H .0) (H .1) (omega arith) e t N) (λ e l t N b. deepen-listed (suc a) k u (H .0) (H .1) (omega arith) e t N b),
-          ))
-          s R (length (s .clusters)) .1,
-    )
+    -- every visit keeps it, and so it holds before every pass
+    pub visit-lists : (a k : ℕ) (s : State) → Going image size a k s → 0 < a → area (cluster s k) ≡ a → Listed s → Listed (visit o w h a k s)
+    visit-lists a k s G pos e L = visit-cases o w h a k s Listed (λ x. L) (λ z l. put-listed k s L) (λ z l n. isolated-cases o w h a k s Listed (put-listed k s L) L)
+        (λ z l t N. merge-listed a k s G L pos e t N) (λ z l t N b. deepen-listed a k s G L pos e t N b)
 
     pub passes-listed : (s : State) → Going image size 1 0 s → Listed s → (m : ℕ) → Going image size (suc m) 0 (passes o w h m s) × Listed (passes o w h m s)
-    unfolding passes
-    passes-listed s G L = times-keep (λ a u. Going image size (suc a) 0 u × Listed u) (λ a. pass o w h (suc a)) pass-listed s (G, L)
+    passes-listed s G L = passes-keep o w h Listed visit-lists s (G, L)
 
     -- a pass at an area that is not listed
     pub pass-skips : (a : ℕ) (s : State) → Going image size (suc a) 0 s → Listed s → (In (suc a) (s .listed) → ⊥) → pass o w h (suc a) s ≡ s
@@ -137,11 +114,7 @@ module _ {image : List ℕ} {size : ℕ} where
     pass-skips a s G L none = all (length (s .clusters))
       where
         from : (k : ℕ) → Going image size (suc a) k s
-        from k = record { sound = G .sound; past = λ j x. side j (G .past j x) }
-          where
-            side : (j : ℕ) → (area (cluster s j) < suc a) ⊎ ((area (cluster s j) ≡ suc a) × (j < 0)) → (area (cluster s j) < suc a) ⊎ ((area (cluster s j) ≡ suc a) × (j < k))
-            side j (inl x) = inl x
-            side j (inr x) = absurd (omega arith)
+        from k = record { sound = G .sound; past = λ j x. elim (G .past j x) [ inl y ↦ inl y | inr y ↦ absurd (omega arith) ] }
 
         differs : (k : ℕ) → area (cluster s k) ≢ suc a
         differs k e = none (subst (λ x. In x (s .listed)) e (L .areas k (getD (cluster s k .pixels) 0 0, stands (suc a) k s (from k) (omega arith) e) (root (suc a) k s (from k) (omega arith) e)))

@@ -1,12 +1,13 @@
 -- Every moment of a run agrees with the ledger of its own log, and which states are moments.
 use mathlib.Core.Path.{_≡_, refl, sym, ap, _∙_, subst}
-use mathlib.Core.Logic.{_↔_, _≢_, _⊎_, inl, inr}
+use mathlib.Core.Logic.{_↔_, _≢_, _⊎_, inl, inr, by-cases}
 use mathlib.Core.Bool.{Bool, true, false, _&&_}
 use mathlib.Core.List.{List, [], _∷_, _++_}
-use Prim.Native.Nat.{ℕ, zero, suc, _+_, _*_, _<_}
+use Prim.Native.Nat.{ℕ, zero, suc, _*_, _<_}
 use native.Mathlib.Decide.{ℕ-discrete}
 use native.Mathlib.Omega.{arith}
-use lib.Dec.{T, ltb, lt→ltb, ltb→lt}
+use borrow.Author.Tests.{ltb-true}
+use lib.Dec.{T, ltb, lt→ltb}
 use lib.ListN.{length}
 use Rattle.rules.specs.Base.{if_then_else_, times}
 use Rattle.rules.specs.Color.{RunnerConfig, keyingOn}
@@ -15,15 +16,15 @@ use Rattle.rules.specs.Stage2.{visit, pass, passes, prepareStage2}
 use Rattle.rules.specs.Run.{run, stage1, stage2, dropEmpty}
 use Rattle.rules.specs.Layout.{link}
 use Rattle.rules.specs.Ledger.{Held, ledger}
-use Rattle.rules.specs.Claim.{countOf, Stands, Holds}
+use Rattle.rules.specs.Claim.{countOf, Stands}
 use Rattle.rules.specs.Moments.{Trace, begun, noted, notedPass, notedPasses, traced, moments, suffixes, Merges, logs, Each, Newest, Oldest}
 use Rattle.rules.specs.Demand3.{Discarded, Agrees}
 use Rattle.rules.proofs.Owned.{owned}
-use Rattle.rules.proofs.Facts.{T-dec, eqb-no, countOf-some, countOf-none}
+use Rattle.rules.proofs.Facts.{T-dec, eqb-no, countOf-some, countOf-none, T-both, T-and}
 use Rattle.rules.proofs.Forest.{inside-not}
 use Rattle.rules.proofs.Basic.{Basic}
 use Rattle.rules.proofs.Sound.{Sound}
-use Rattle.rules.proofs.Visits.{Going, visit-going, pass-going, visit-cases, isolated-cases, times-keep, k≢t}
+use Rattle.rules.proofs.Visits.{Going, visit-going, visit-cases, isolated-cases, times-keep, k≢t, next-area, slots-keep, passes-keep}
 use Rattle.rules.proofs.Early.{Early, prepareStage2-going}
 use Rattle.rules.proofs.Whole.{early, stage2-passes, rests, agrees, Some, AsBefore, merge-some, deepen-some, put-some}
 use Rattle.rules.proofs.Chains.{Chained, listed, put-chained, merge-chained, deepen-chained, prepareStage2-chained}
@@ -38,19 +39,7 @@ find f (suc n) = pick (T-dec (f n)) (find f n)
     pick : Dec (T (f n)) → Dec ((p : ℕ) × (p < n) × T (f p)) → Dec ((p : ℕ) × (p < suc n) × T (f p))
     pick (yes t) r = yes (n, omega arith, t)
     pick (no t) (yes r) = yes (r .0, omega (arith, r .1), r .2)
-    pick (no t) (no r) = no (λ x. other x (ℕ-discrete (x .0) n))
-      where
-        other : (x : (p : ℕ) × (p < suc n) × T (f p)) → Dec (x .0 ≡ n) → ⊥
-        other x (yes e) = t (subst (λ m. T (f m)) e (x .2))
-        other x (no d) = r (x .0, omega (arith, x .1), x .2)
-
-both : (a b : Bool) → T a → T b → T (a && b)
-both true b x y = y
-both false b x y = x
-
-one-of : (a b : Bool) → T (a && b) → T a × T b
-one-of true b x = (tt, x)
-one-of false b x = absurd x
+    pick (no t) (no r) = no (λ x. elim (ℕ-discrete (x .0) n) [ yes e ↦ t (subst (λ m. T (f m)) e (x .2)) | no d ↦ r (x .0, omega (arith, x .1), x .2) ])
 
 -- a sum counts a pixel exactly when its cluster stands
 pub counted : {image : List ℕ} {size : ℕ} {h : Held} {s : State} → Basic image size h s → (k : ℕ) → (0 < cluster s k .sum .count) ↔ Stands h k
@@ -71,7 +60,9 @@ module _ (o : RunnerConfig) (w height : ℕ) (image : List ℕ) where
   compared a k s G A C = record {
     placed = λ j p x. (subst (λ m. p < m) (B .width) (B .places j p x), B .slots j p x);
     counts = counted B;
-    whole = λ i j. torn i j (find (λ p. ledger (s .log) i p && ledger (s .log) j p) (w * height));
+    whole = λ i j. by-cases (find (λ p. ledger (s .log) i p && ledger (s .log) j p) (w * height))
+        (λ x. let y = T-both (ledger (s .log) i (x .0)) (ledger (s .log) j (x .0)) (x .2) in inr (agrees S .whole i j (x .0) (y .0) (y .1)))
+        (λ n. inl (λ p x y. n (p, subst (λ m. p < m) (B .width) (B .places i p x), T-and (ledger (s .log) i p) (ledger (s .log) j p) x y)));
     distinct = agrees S .distinct;
     labelled = λ p l n. top p (here p (E .covered p l) n);
     discarded = λ j p d x. let y = A p .1 (j, x) in E .never (y .0) p (y .1) d;
@@ -95,11 +86,6 @@ module _ (o : RunnerConfig) (w height : ℕ) (image : List ℕ) where
       one p i j x y (yes e) = e
       one p i j x y (no d) =
           absurd (inside-not (λ k q. T (ledger (s .log) k q)) i j (S .forest .own-inner i j p x (S .forest .own-held j p y) d) (S .forest .own-inner j i p y (S .forest .own-held i p x) (λ e. d (sym e))))
-
-      torn : (i j : ℕ) → Dec ((p : ℕ) × (p < w * height) × T (ledger (s .log) i p && ledger (s .log) j p))
-          → ((p : ℕ) → T (ledger (s .log) i p) → T (ledger (s .log) j p) → ⊥) ⊎ (Holds (ledger (s .log)) i j ⊎ Holds (ledger (s .log)) j i)
-      torn i j (yes x) = let y = one-of (ledger (s .log) i (x .0)) (ledger (s .log) j (x .0)) (x .2) in inr (agrees S .whole i j (x .0) (y .0) (y .1))
-      torn i j (no n) = inl (λ p x y. n (p, subst (λ m. p < m) (B .width) (B .places i p x), both (ledger (s .log) i p) (ledger (s .log) j p) x y))
 
       here : (p : ℕ) → Discarded o image p ⊎ Some (ledger (stage1 o w height image .log)) p → (Discarded o image p → ⊥) → Some (ledger (s .log)) p
       here p (inl d) n = absurd (n d)
@@ -141,7 +127,7 @@ pub same-moments : (s u : State) (ms : List State) → u .log ≡ s .log → (if
 same-moments s u ms e = pick (ltb (length (s .log)) (length (u .log))) refl
   where
     pick : (b : Bool) → ltb (length (s .log)) (length (u .log)) ≡ b → (if b then u ∷ ms else ms) ≡ ms
-    pick true z = absurd (let l : length (s .log) < length (u .log) = ltb→lt (length (s .log)) (length (u .log)) (subst T (sym z) tt) in omega (arith, ap length e))
+    pick true z = absurd (let l : length (s .log) < length (u .log) = ltb-true (length (s .log)) (length (u .log)) z in omega (arith, ap length e))
     pick false z = refl
 
 -- it logged an event: one moment
@@ -211,11 +197,7 @@ module _ (o : RunnerConfig) (w height : ℕ) (image : List ℕ) (P : State → T
       G = visit-going o w height a k s (K .going) pos
 
       p : P u
-      p = pick (ℕ-discrete (area (cluster s k)) a)
-        where
-          pick : Dec (area (cluster s k) ≡ a) → P u
-          pick (yes e) = step a k s (K .going) pos e (K .kept)
-          pick (no d) = subst P (sym (visit-idle o w height a k s d)) (K .kept)
+      p = elim (ℕ-discrete (area (cluster s k)) a) [ yes e ↦ step a k s (K .going) pos e (K .kept) | no d ↦ subst P (sym (visit-idle o w height a k s d)) (K .kept) ]
 
       go : Shares u s ⊎ ((x : Event) × (u .log ≡ x ∷ s .log) × Merges (x ∷ [])) → Tracked a (suc k) u (if ltb (length (s .log)) (length (u .log)) then u ∷ ms else ms)
       go (inl e) = subst (Tracked a (suc k) u) (sym (same-moments s u ms (e .2))) (record {
@@ -254,13 +236,9 @@ module _ (o : RunnerConfig) (w height : ℕ) (image : List ℕ) (P : State → T
       end : Tracked (suc a) (length (t .now .clusters)) (u .now) (u .moments)
       end = times-keep (λ k v. Tracked (suc a) k (v .now) (v .moments)) (λ k. noted (visit o w height (suc a) k)) (λ k v H. visit-tracked (suc a) k (omega arith) v H) t K (length (t .now .clusters))
 
-      side : (j n : ℕ) {x : ℕ} → (x < suc a) ⊎ ((x ≡ suc a) × (j < n)) → (x < suc (suc a)) ⊎ ((x ≡ suc (suc a)) × (j < 0))
-      side j n (inl y) = inl (omega arith)
-      side j n (inr y) = inl (omega arith)
-
       on : {n : ℕ} → Tracked (suc a) n (u .now) (u .moments) → Tracked (suc (suc a)) 0 (u .now) (u .moments)
-      on {n} H = record {
-        going = record { sound = H .going .sound; past = λ j x. side j n (H .going .past j x) };
+      on H = record {
+        going = next-area (H .going);
         kept = H .kept;
         good = H .good;
         begins = H .begins;
@@ -372,25 +350,11 @@ module _ (o : RunnerConfig) (w height : ℕ) (image : List ℕ) where
 
   -- the same after any number of passes and visits: what a run that is stopped between two visits of stage 2 leaves
   pub stopped-agrees : (a m : ℕ) → Agrees o w height image (ledger (times m (visit o w height (suc a)) (passes o w height a (prepareStage2 (stage1 o w height image))) .log)) (times m (visit o w height (suc a)) (passes o w height a (prepareStage2 (stage1 o w height image))))
-  unfolding passes pass
-  stopped-agrees a m = let R = slots (suc a) (omega arith) m (passes o w height a s) (all a) in compared o w height image (suc a) m (times m (visit o w height (suc a)) (passes o w height a s)) (R .0) (R .1 .0) (R .1 .1)
+  stopped-agrees a m = let R = slots-keep o w height Keeps visit-keeps (suc a) (omega arith) (passes o w height a s) (passes-keep o w height Keeps visit-keeps s start a) m in
+      compared o w height image (suc a) m (times m (visit o w height (suc a)) (passes o w height a s)) (R .0) (R .1 .0) (R .1 .1)
     where
       s : State
       s = prepareStage2 (stage1 o w height image)
 
-      J : ℕ → ℕ → State → Type 0
-      J b k u = Going image (w * height) b k u × Keeps u
-
-      one : (b k : ℕ) (u : State) → 0 < b → J b k u → J b (suc k) (visit o w height b k u)
-      one b k u pos R = (visit-going o w height b k u (R .0) pos, pick (ℕ-discrete (area (cluster u k)) b))
-        where
-          pick : Dec (area (cluster u k) ≡ b) → Keeps (visit o w height b k u)
-          pick (yes e) = visit-keeps b k u (R .0) pos e (R .1)
-          pick (no d) = subst Keeps (sym (visit-idle o w height b k u d)) (R .1)
-
-      slots : (b : ℕ) → 0 < b → (n : ℕ) (u : State) → J b 0 u → J b n (times n (visit o w height b) u)
-      slots b pos n u R = times-keep (λ k v. J b k v) (visit o w height b) (λ k v H. one b k v pos H) u R n
-
-      all : (n : ℕ) → J (suc n) 0 (passes o w height n s)
-      all n = times-keep (λ b v. J (suc b) 0 v) (λ b. pass o w height (suc b)) (λ b v H. (pass-going o w height b v (H .0), slots (suc b) (omega arith) (length (v .clusters)) v H .1)) s
-          (prepareStage2-going (w * height) (stage1 o w height image) (early o w height image), start-keeps) n
+      start : Going image (w * height) 1 0 s × Keeps s
+      start = (prepareStage2-going (w * height) (stage1 o w height image) (early o w height image), start-keeps)

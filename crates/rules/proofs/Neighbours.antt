@@ -1,14 +1,14 @@
 -- The neighbours of a cluster as a set, their number, and the target as the least by difference and number: what a scan with marks finds.
 use mathlib.Core.Path.{_≡_, refl, sym, ap, ap₂, _∙_, subst}
-use mathlib.Core.Logic.{_↔_, _≢_, _⊎_, inl, inr}
-use mathlib.Core.Bool.{Bool, true, false, not, _||_}
+use mathlib.Core.Logic.{_↔_, _≢_, _⊎_, inl, inr, by-cases}
+use mathlib.Core.Bool.{Bool, true, false, _||_}
 use mathlib.Core.List.{List, [], _∷_}
-use mathlib.Core.Option.{Option, some}
-use mathlib.Core.Option.{none as off}
-use Prim.Native.Nat.{ℕ, zero, suc, _+_, _≤_, _<_}
+use mathlib.Core.Option.{Option, some, none as off}
+use Prim.Native.Nat.{ℕ, _+_, _≤_, _<_}
 use native.Mathlib.Decide.{decLt}
 use native.Mathlib.Omega.{arith}
-use lib.Dec.{T, eqb, ltb, ltb→lt, nltb→le, eqb→eq}
+use borrow.Author.Tests.{eqb-false, eqb-true, ltb-false, ltb-true}
+use lib.Dec.{T, eqb, ltb, eqb→eq}
 use lib.ListN.{length, getD}
 use Rattle.rules.specs.Base.{if_then_else_, member, insert, least}
 use Rattle.rules.specs.Color.{RunnerConfig, _⊕_}
@@ -16,8 +16,8 @@ use Rattle.rules.specs.Grid.{sides}
 use Rattle.rules.specs.State.{State, cluster, label}
 use Rattle.rules.specs.Stage2.{labelsAt, labelsAround, neighbours}
 use Rattle.rules.specs.Claim.{countOf}
-use Rattle.rules.proofs.Facts.{countOf-one, tally-or}
-use Rattle.rules.proofs.Visits.{All, insert-all, eqb-is, eqb-ne}
+use Rattle.rules.proofs.Facts.{countOf-one, tally-or, countOf-none}
+use Rattle.rules.proofs.Visits.{All, insert-all}
 use Rattle.rules.proofs.Outputs.{In}
 use Rattle.rules.proofs.Pictures.{tally-count}
 use Rattle.rules.proofs.Listed.{insert-old, insert-new}
@@ -44,9 +44,9 @@ insert-rising a [] r = (tt, tt)
 insert-rising a (x ∷ xs) r = go (ltb a x) refl (eqb a x) refl (insert-rising a xs (r .1))
   where
     go : (b : Bool) → ltb a x ≡ b → (c : Bool) → eqb a x ≡ c → Rising (insert a xs) → Rising (if b then a ∷ x ∷ xs else (if c then x ∷ xs else x ∷ insert a xs))
-    go true e c d ih = let l : a < x = ltb→lt a x (subst T (sym e) tt) in ((l, all-map (λ y. x < y) (λ y. a < y) xs (λ y z. omega arith) (r .0)), r)
+    go true e c d ih = let l : a < x = ltb-true a x e in ((l, all-map (λ y. x < y) (λ y. a < y) xs (λ y z. omega arith) (r .0)), r)
     go false e true d ih = r
-    go false e false d ih = let l : x ≤ a = nltb→le a x (subst (λ b. T (not b)) (sym e) tt) in let n : a ≢ x = eqb-ne a x d in (insert-all (λ y. x < y) a xs (omega arith) (r .0), ih)
+    go false e false d ih = let l : x ≤ a = ltb-false a x e in let n : a ≢ x = eqb-false a x d in (insert-all (λ y. x < y) a xs (omega arith) (r .0), ih)
 
 countOf-or : (a b : ℕ → Bool) → ((p : ℕ) → T (a p) → T (b p) → ⊥) → (n : ℕ) → countOf (λ p. a p || b p) n ≡ countOf a n + countOf b n
 unfolding _⊕_
@@ -55,11 +55,7 @@ countOf-or a b d n = sym (tally-count [] (λ p. a p || b p) n) ∙ ap (λ x. x .
 -- the length of a rising list is the number of marks that stand for it
 pub rising-count : (xs : List ℕ) (n : ℕ) → Rising xs → All (λ x. x < n) xs → length xs ≡ countOf (λ j. member j xs) n
 unfolding countOf
-rising-count [] n r b = sym (none n)
-  where
-    none : (m : ℕ) → countOf (λ j. false) m ≡ 0
-    none zero = refl
-    none (suc m) = omega (arith, none m)
+rising-count [] n r b = sym (countOf-none (λ j. false) (λ j x. x) n)
 rising-count (x ∷ xs) n r b = omega (arith, rising-count xs n (r .1) (b .1), countOf-or (λ j. eqb j x) (λ j. member j xs) apart n, countOf-one x n (b .0))
   where
     apart : (p : ℕ) → T (eqb p x) → T (member p xs) → ⊥
@@ -68,11 +64,7 @@ rising-count (x ∷ xs) n r b = omega (arith, rising-count xs n (r .1) (b .1), c
 -- the entry with the least key, and of several the least number
 pub least-is : (key : ℕ → ℕ) (x : ℕ) (xs : List ℕ) → Rising (x ∷ xs)
     → In (least key x xs) (x ∷ xs) × ((j : ℕ) → In j (x ∷ xs) → (key (least key x xs) < key j) ⊎ ((key (least key x xs) ≡ key j) × (least key x xs ≤ j)))
-least-is key x [] r = (inl refl, λ j i. one j i)
-  where
-    one : (j : ℕ) → (j ≡ x) ⊎ ⊥ → (key x < key j) ⊎ ((key x ≡ key j) × (x ≤ j))
-    one j (inl e) = inr (ap key (sym e), omega arith)
-    one j (inr i) = absurd i
+least-is key x [] r = (inl refl, λ j i. elim i [ inl e ↦ inr (ap key (sym e), omega arith) | inr i ↦ absurd i ])
 least-is key x (y ∷ ys) r = go (ltb (key y) (key x)) refl (least-is key y ys (r .1)) (least-is key x ys (r .0 .1, r .1 .1))
   where
     Is : ℕ → ℕ → List ℕ → Type 0
@@ -82,30 +74,18 @@ least-is key x (y ∷ ys) r = go (ltb (key y) (key x)) refl (least-is key y ys (
     Goal t = In t (x ∷ y ∷ ys) × ((j : ℕ) → In j (x ∷ y ∷ ys) → (key t < key j) ⊎ ((key t ≡ key j) × (t ≤ j)))
 
     right : key y < key x → (t : ℕ) → Is t y ys → Goal t
-    right l t q = (inr (q .0), λ j i. all j i)
-      where
-        under : (key t < key y) ⊎ ((key t ≡ key y) × (t ≤ y)) → key t < key x
-        under (inl z) = omega arith
-        under (inr z) = omega (arith, z .0)
-
-        all : (j : ℕ) → (j ≡ x) ⊎ In j (y ∷ ys) → (key t < key j) ⊎ ((key t ≡ key j) × (t ≤ j))
-        all j (inl e) = inl (omega (arith, under (q .1 y (inl refl)), ap key e))
-        all j (inr i) = q .1 j i
+    right l t q =
+        let under : key t < key x = elim (q .1 y (inl refl)) [ inl z ↦ omega arith | inr z ↦ omega (arith, z .0) ] in
+        (inr (q .0), λ j i. elim i [ inl e ↦ inl (omega (arith, ap key e)) | inr i ↦ q .1 j i ])
 
     left : key x ≤ key y → (t : ℕ) → Is t x ys → Goal t
-    left l t q = (place (q .0), λ j i. all j i)
+    left l t q = (elim (q .0) [ inl e ↦ inl e | inr i ↦ inr (inr i) ], λ j i. all j i)
       where
-        place : (t ≡ x) ⊎ In t ys → In t (x ∷ y ∷ ys)
-        place (inl e) = inl e
-        place (inr i) = inr (inr i)
-
         at-y : (j : ℕ) → j ≡ y → (key t < key x) ⊎ ((key t ≡ key x) × (t ≤ x)) → (key t < key j) ⊎ ((key t ≡ key j) × (t ≤ j))
         at-y j e (inl z) = inl (omega (arith, ap key e))
-        at-y j e (inr z) = side (decLt (key x) (key y))
-          where
-            side : Dec (key x < key y) → (key t < key j) ⊎ ((key t ≡ key j) × (t ≤ j))
-            side (yes u) = inl (omega (arith, ap key e, z .0))
-            side (no u) = inr (omega (arith, ap key e, z .0), omega (arith, z .1, r .0 .0))
+        at-y j e (inr z) = by-cases (decLt (key x) (key y))
+            (λ u. inl (omega (arith, ap key e, z .0)))
+            (λ u. inr (omega (arith, ap key e, z .0), omega (arith, z .1, r .0 .0)))
 
         all : (j : ℕ) → (j ≡ x) ⊎ ((j ≡ y) ⊎ In j ys) → (key t < key j) ⊎ ((key t ≡ key j) × (t ≤ j))
         all j (inl e) = q .1 j (inl e)
@@ -113,8 +93,8 @@ least-is key x (y ∷ ys) r = go (ltb (key y) (key x)) refl (least-is key y ys (
         all j (inr (inr i)) = q .1 j (inr i)
 
     go : (b : Bool) → ltb (key y) (key x) ≡ b → Is (least key y ys) y ys → Is (least key x ys) x ys → Goal (if b then least key y ys else least key x ys)
-    go true e u v = right (ltb→lt (key y) (key x) (subst T (sym e) tt)) (least key y ys) u
-    go false e u v = left (nltb→le (key y) (key x) (subst (λ b. T (not b)) (sym e) tt)) (least key x ys) v
+    go true e u v = right (ltb-true (key y) (key x) e) (least key y ys) u
+    go false e u v = left (ltb-false (key y) (key x) e) (least key x ys) v
 
 -- only one entry is so
 pub least-unique : (key : ℕ → ℕ) (t u : ℕ) → (key t < key u) ⊎ ((key t ≡ key u) × (t ≤ u)) → (key u < key t) ⊎ ((key u ≡ key t) × (u ≤ t)) → t ≡ u
@@ -137,11 +117,7 @@ module _ (o : RunnerConfig) (w h : ℕ) (s : State) (own : ℕ) where
 
   labelsAt-in : (is : List (Option ℕ)) (found : List ℕ) (t : ℕ) → In t (labelsAt (s .labels) own is found) ↔ (In t found ⊎ Seen is t)
   unfolding labelsAt
-  labelsAt-in [] found t = (λ i. inl i, λ x. back x)
-    where
-      back : In t found ⊎ Seen [] t → In t found
-      back (inl i) = i
-      back (inr x) = absurd (x .2 .1)
+  labelsAt-in [] found t = (λ i. inl i, λ x. elim x [ inl i ↦ i | inr x ↦ absurd (x .2 .1) ])
   labelsAt-in (off ∷ is) found t = labelsAt-in is found t
   labelsAt-in (some i ∷ is) found t =
       let r = labelsAt-in is (if eqb (label s i) 0 || eqb (label s i) own then found else insert (label s i) found) t in
@@ -153,11 +129,10 @@ module _ (o : RunnerConfig) (w h : ℕ) (s : State) (own : ℕ) where
       pick : (b : Bool) → eqb (label s i) 0 ≡ b → (c : Bool) → eqb (label s i) own ≡ c → In t (if b || c then found else insert (label s i) found) → In t found ⊎ Seen (some i ∷ is) t
       pick true e c d x = inl x
       pick false e true d x = inl x
-      pick false e false d x = side (insert-from t (label s i) found x)
-        where
-          side : (t ≡ label s i) ⊎ In t found → In t found ⊎ Seen (some i ∷ is) t
-          side (inl z) = inr ((λ y. eqb-ne (label s i) 0 e (sym z ∙ y)), (λ y. eqb-ne (label s i) own d (sym z ∙ y)), (i, inl refl, sym z))
-          side (inr z) = inl z
+      pick false e false d x = elim (insert-from t (label s i) found x) [
+        | inl z ↦ inr ((λ y. eqb-false (label s i) 0 e (sym z ∙ y)), (λ y. eqb-false (label s i) own d (sym z ∙ y)), (i, inl refl, sym z))
+        | inr z ↦ inl z
+      ]
 
       to : In t new ⊎ Seen is t → In t found ⊎ Seen (some i ∷ is) t
       to (inl x) = pick (eqb (label s i) 0) refl (eqb (label s i) own) refl x
@@ -168,17 +143,16 @@ module _ (o : RunnerConfig) (w h : ℕ) (s : State) (own : ℕ) where
       keep false x = insert-old t (label s i) found x
 
       fresh : (b : Bool) → eqb (label s i) 0 ≡ b → (c : Bool) → eqb (label s i) own ≡ c → t ≢ 0 → t ≢ own → label s i ≡ t → In t (if b || c then found else insert (label s i) found)
-      fresh true e c d m n z = absurd (m (sym z ∙ eqb-is (label s i) 0 e))
-      fresh false e true d m n z = absurd (n (sym z ∙ eqb-is (label s i) own d))
+      fresh true e c d m n z = absurd (m (sym z ∙ eqb-true (label s i) 0 e))
+      fresh false e true d m n z = absurd (n (sym z ∙ eqb-true (label s i) own d))
       fresh false e false d m n z = subst (λ x. In x (insert (label s i) found)) z (insert-new (label s i) found)
 
       from : In t found ⊎ Seen (some i ∷ is) t → In t new ⊎ Seen is t
       from (inl x) = inl (keep (eqb (label s i) 0 || eqb (label s i) own) x)
-      from (inr x) = place (x .2 .1)
-        where
-          place : (x .2 .0 ≡ i) ⊎ InSides (x .2 .0) is → In t new ⊎ Seen is t
-          place (inl z) = inl (fresh (eqb (label s i) 0) refl (eqb (label s i) own) refl (x .0) (x .1) (ap (label s) (sym z) ∙ x .2 .2))
-          place (inr z) = inr (x .0, x .1, (x .2 .0, z, x .2 .2))
+      from (inr x) = elim (x .2 .1) [
+        | inl z ↦ inl (fresh (eqb (label s i) 0) refl (eqb (label s i) own) refl (x .0) (x .1) (ap (label s) (sym z) ∙ x .2 .2))
+        | inr z ↦ inr (x .0, x .1, (x .2 .0, z, x .2 .2))
+      ]
 
   labelsAt-rising : (is : List (Option ℕ)) (found : List ℕ) → Rising found → Rising (labelsAt (s .labels) own is found)
   unfolding labelsAt
@@ -196,31 +170,22 @@ module _ (o : RunnerConfig) (w h : ℕ) (s : State) (own : ℕ) where
 
   around4-in : (ps found : List ℕ) (t : ℕ) → In t (labelsAround w h (s .labels) own ps found) ↔ (In t found ⊎ SeenFrom ps t)
   unfolding labelsAround
-  around4-in [] found t = (λ i. inl i, λ x. back x)
-    where
-      back : In t found ⊎ SeenFrom [] t → In t found
-      back (inl i) = i
-      back (inr x) = absurd (x .2 .1)
+  around4-in [] found t = (λ i. inl i, λ x. elim x [ inl i ↦ i | inr x ↦ absurd (x .2 .1) ])
   around4-in (p ∷ ps) found t =
       let r = around4-in ps (labelsAt (s .labels) own (sides w h p) found) t in
       let u = labelsAt-in (sides w h p) found t in
       (λ x. to (u .0) (r .0 x), λ x. r .1 (from (u .1) x))
     where
-      first : In t found ⊎ Seen (sides w h p) t → In t found ⊎ SeenFrom (p ∷ ps) t
-      first (inl x) = inl x
-      first (inr x) = inr (x .0, x .1, (p, inl refl, x .2))
-
       to : (In t (labelsAt (s .labels) own (sides w h p) found) → In t found ⊎ Seen (sides w h p) t) → In t (labelsAt (s .labels) own (sides w h p) found) ⊎ SeenFrom ps t → In t found ⊎ SeenFrom (p ∷ ps) t
-      to f (inl x) = first (f x)
+      to f (inl x) = elim (f x) [ inl x ↦ inl x | inr x ↦ inr (x .0, x .1, (p, inl refl, x .2)) ]
       to f (inr x) = inr (x .0, x .1, (x .2 .0, inr (x .2 .1), x .2 .2))
 
       from : (In t found ⊎ Seen (sides w h p) t → In t (labelsAt (s .labels) own (sides w h p) found)) → In t found ⊎ SeenFrom (p ∷ ps) t → In t (labelsAt (s .labels) own (sides w h p) found) ⊎ SeenFrom ps t
       from f (inl x) = inl (f (inl x))
-      from f (inr x) = place (x .2 .1)
-        where
-          place : (x .2 .0 ≡ p) ⊎ In (x .2 .0) ps → In t (labelsAt (s .labels) own (sides w h p) found) ⊎ SeenFrom ps t
-          place (inl z) = inl (f (inr (x .0, x .1, (x .2 .2 .0, subst (λ m. InSides (x .2 .2 .0) (sides w h m)) z (x .2 .2 .1), x .2 .2 .2))))
-          place (inr z) = inr (x .0, x .1, (x .2 .0, z, x .2 .2))
+      from f (inr x) = elim (x .2 .1) [
+        | inl z ↦ inl (f (inr (x .0, x .1, (x .2 .2 .0, subst (λ m. InSides (x .2 .2 .0) (sides w h m)) z (x .2 .2 .1), x .2 .2 .2))))
+        | inr z ↦ inr (x .0, x .1, (x .2 .0, z, x .2 .2))
+      ]
 
   around4-rising : (ps found : List ℕ) → Rising found → Rising (labelsAround w h (s .labels) own ps found)
   unfolding labelsAround
@@ -231,11 +196,9 @@ module _ (o : RunnerConfig) (w h : ℕ) (s : State) (k : ℕ) where
   -- t is a neighbour exactly when it is neither 0 nor the label of the first pixel, and the label of a side of a pixel of k
   pub neighbours-in : (t : ℕ) → In t (neighbours w h s k) ↔ SeenFrom o w h s (label s (getD (cluster s k .pixels) 0 0)) (cluster s k .pixels) t
   unfolding neighbours
-  neighbours-in t = let r = around4-in o w h s (label s (getD (cluster s k .pixels) 0 0)) (cluster s k .pixels) [] t in (λ x. go (r .0 x), λ x. r .1 (inr x))
-    where
-      go : In t [] ⊎ SeenFrom o w h s (label s (getD (cluster s k .pixels) 0 0)) (cluster s k .pixels) t → SeenFrom o w h s (label s (getD (cluster s k .pixels) 0 0)) (cluster s k .pixels) t
-      go (inl x) = absurd x
-      go (inr x) = x
+  neighbours-in t =
+      let r = around4-in o w h s (label s (getD (cluster s k .pixels) 0 0)) (cluster s k .pixels) [] t in
+      (λ x. elim (r .0 x) [ inl x ↦ absurd x | inr x ↦ x ], λ x. r .1 (inr x))
 
   pub neighbours-rising : Rising (neighbours w h s k)
   unfolding neighbours

@@ -1,31 +1,31 @@
 -- Stage 2 is repeated picking of the least pending slot.
 use mathlib.Core.Path.{_≡_, refl, sym, ap, _∙_, subst}
-use mathlib.Core.Logic.{_≢_, _⊎_, inl, inr}
+use mathlib.Core.Logic.{_≢_, _⊎_, inl, inr, by-cases}
 use mathlib.Core.Bool.{Bool, true, false, not, _&&_}
 use mathlib.Core.List.{List, _∷_}
-use mathlib.Core.Option.{Option, some}
-use mathlib.Core.Option.{none as off}
+use mathlib.Core.Option.{Option, some, none as off}
 use Prim.Native.Nat.{ℕ, zero, suc, _+_, _*_, _≤_, _<_}
 use native.Mathlib.Decide.{ℕ-discrete, decLt}
 use native.Mathlib.Omega.{arith}
-use lib.Dec.{T, eqb, ltb, lt→ltb, ltb→lt, nltb→le}
+use borrow.Author.Tests.{eqb-false, eqb-true, ltb-false, ltb-true}
+use lib.Dec.{T, eqb, ltb, lt→ltb}
 use lib.ListN.{length, getD, set, length-set, length-append, length-map, List·getD-map, List·getD-eq-default}
 use lib.Seq.{getD-set-same, getD-set-other}
 use Rattle.rules.specs.Base.{if_then_else_, times}
 use Rattle.rules.specs.Color.{RunnerConfig, keyingOn}
-use Rattle.rules.specs.State.{State, Event, newCluster, cluster, label, area, emptied, mergedTo, withResidue, put, merge, deepen, plain, deepened}
+use Rattle.rules.specs.State.{State, Event, newCluster, cluster, area, emptied, mergedTo, withResidue, put, merge, deepen, plain, deepened}
 use Rattle.rules.specs.Stage2.{neighbours, decide, visit, pass, passes, prepareStage2}
 use Rattle.rules.specs.Run.{stage1, stage2}
 use Rattle.rules.specs.Claim.{countOf}
 use Rattle.rules.specs.Order.{better, pick, target, rekey, Queue, queue, start, visited, turnOf, turn, turns, drained}
 use Rattle.rules.specs.Demand3.{Discarded}
 use Rattle.rules.proofs.Facts.{standing, eqb-no, countOf-le, countOf-lt}
-use Rattle.rules.proofs.Basic.{Moved, three, merge-f, merge-moved, deepen-f, deepen-moved}
-use Rattle.rules.proofs.Visits.{Going, later, Near, visit-cases, isolated-cases, visit-going, times-keep, eqb-is, eqb-ne, k≢t, k-slot, t-slot, target-stands}
-use Rattle.rules.proofs.Early.{Early, prepareStage2-going, settled}
+use Rattle.rules.proofs.Basic.{Moved, three}
+use Rattle.rules.proofs.Visits.{Going, later, visit-cases, isolated-cases, visit-going, times-keep, k≢t, t-slot, target-stands, merge-changes, merge-from, deepen-changes, deepen-from, next-area}
+use Rattle.rules.proofs.Early.{Early, prepareStage2-going}
 use Rattle.rules.proofs.Whole.{early, stage2-passes}
 use Rattle.rules.proofs.Outputs.{area-pos, area-le}
-use Rattle.rules.proofs.Bounds.{Bounded, Root, rooted, waiting, root-out, wait-out, later-waits, here, not-then, fewer-roots, fewer-waits, next-waits}
+use Rattle.rules.proofs.Bounds.{Bounded, rooted, waiting, root-out, wait-out, later-waits, here, not-then, next-waits, merge-fewer, deepen-fewer, stood}
 
 -- ---- the pick
 
@@ -50,33 +50,25 @@ better-best keys m off x = go (eqb (getD keys m 0) 0) refl
     first j l n (no z) = absurd (n (x j (omega arith)))
 
     go : (c : Bool) → eqb (getD keys m 0) 0 ≡ c → Best keys (suc m) (if c then off else some m)
-    go true e = λ j l. all (eqb-is (getD keys m 0) 0 e) j l (ℕ-discrete j m)
-    go false e = (omega arith, eqb-ne (getD keys m 0) 0 e, λ j l n. first j l n (ℕ-discrete j m))
+    go true e = λ j l. all (eqb-true (getD keys m 0) 0 e) j l (ℕ-discrete j m)
+    go false e = (omega arith, eqb-false (getD keys m 0) 0 e, λ j l n. first j l n (ℕ-discrete j m))
 better-best keys m (some i) x = go (eqb (getD keys m 0) 0) refl (ltb (getD keys m 0) (getD keys i 0)) refl
   where
     old : (getD keys m 0 ≢ 0 → getD keys i 0 ≤ getD keys m 0) → (j : ℕ) → j < suc m → getD keys j 0 ≢ 0 → Dec (j ≡ m) → (getD keys i 0 < getD keys j 0) ⊎ ((getD keys i 0 ≡ getD keys j 0) × (i ≤ j))
     old f j l n (no z) = x .2 j (omega arith) n
-    old f j l n (yes z) = side (decLt (getD keys i 0) (getD keys j 0))
+    old f j l n (yes z) = elim (decLt (getD keys i 0) (getD keys j 0)) [ yes q ↦ inl q | no q ↦ inr (omega (arith, s, f (λ y. n (s ∙ y))), omega (arith, x .0)) ]
       where
         s : getD keys j 0 ≡ getD keys m 0
         s = ap (λ y. getD keys y 0) z
 
-        side : Dec (getD keys i 0 < getD keys j 0) → (getD keys i 0 < getD keys j 0) ⊎ ((getD keys i 0 ≡ getD keys j 0) × (i ≤ j))
-        side (yes q) = inl q
-        side (no q) = inr (omega (arith, s, f (λ y. n (s ∙ y))), omega (arith, x .0))
-
     new : getD keys m 0 < getD keys i 0 → (j : ℕ) → j < suc m → getD keys j 0 ≢ 0 → Dec (j ≡ m) → (getD keys m 0 < getD keys j 0) ⊎ ((getD keys m 0 ≡ getD keys j 0) × (m ≤ j))
     new l j b n (yes z) = inr (ap (λ y. getD keys y 0) (sym z), omega arith)
-    new l j b n (no z) = side (x .2 j (omega arith) n)
-      where
-        side : (getD keys i 0 < getD keys j 0) ⊎ ((getD keys i 0 ≡ getD keys j 0) × (i ≤ j)) → (getD keys m 0 < getD keys j 0) ⊎ ((getD keys m 0 ≡ getD keys j 0) × (m ≤ j))
-        side (inl q) = inl (omega arith)
-        side (inr q) = inl (omega arith)
+    new l j b n (no z) = elim (x .2 j (omega arith) n) [ inl q ↦ inl (omega arith) | inr q ↦ inl (omega arith) ]
 
     go : (c : Bool) → eqb (getD keys m 0) 0 ≡ c → (d : Bool) → ltb (getD keys m 0) (getD keys i 0) ≡ d → Best keys (suc m) (if not c && d then some m else some i)
-    go true e d q = (omega (arith, x .0), x .1, λ j l n. old (λ y. absurd (y (eqb-is (getD keys m 0) 0 e))) j l n (ℕ-discrete j m))
-    go false e true q = (omega arith, eqb-ne (getD keys m 0) 0 e, λ j l n. new (ltb→lt (getD keys m 0) (getD keys i 0) (subst T (sym q) tt)) j l n (ℕ-discrete j m))
-    go false e false q = (omega (arith, x .0), x .1, λ j l n. old (λ y. nltb→le (getD keys m 0) (getD keys i 0) (subst (λ b. T (not b)) (sym q) tt)) j l n (ℕ-discrete j m))
+    go true e d q = (omega (arith, x .0), x .1, λ j l n. old (λ y. absurd (y (eqb-true (getD keys m 0) 0 e))) j l n (ℕ-discrete j m))
+    go false e true q = (omega arith, eqb-false (getD keys m 0) 0 e, λ j l n. new (ltb-true (getD keys m 0) (getD keys i 0) q) j l n (ℕ-discrete j m))
+    go false e false q = (omega (arith, x .0), x .1, λ j l n. old (λ y. ltb-false (getD keys m 0) (getD keys i 0) q) j l n (ℕ-discrete j m))
 
 -- what is picked is the least
 pub pick-best : (keys : List ℕ) → Best keys (length keys) (pick keys)
@@ -123,11 +115,7 @@ pub record Queued (a k : ℕ) (s : State) (keys : List ℕ) : Type 0 where
 
 key-later : (a k x j v : ℕ) → (j ≡ k → x ≢ a) → KeyIs a k x j v → KeyIs a (suc k) x j v
 key-later a k x j v n (inl (inl l, e)) = inl (inl l, e)
-key-later a k x j v n (inl (inr l, e)) = go (ℕ-discrete j k)
-  where
-    go : Dec (j ≡ k) → KeyIs a (suc k) x j v
-    go (yes z) = absurd (n z (l .0))
-    go (no z) = inl (inr (l .0, omega arith), e)
+key-later a k x j v n (inl (inr l, e)) = elim (ℕ-discrete j k) [ yes z ↦ absurd (n z (l .0)) | no z ↦ inl (inr (l .0, omega arith), e) ]
 key-later a k x j v n (inr (inl l, e)) = inr (inl l, e)
 key-later a k x j v n (inr (inr l, e)) = inr (inr (l .0, omega arith), e)
 
@@ -137,11 +125,9 @@ skip-queued a k s keys n Q = record { keyed = λ j. key-later a k (area (cluster
 -- a slot with pixels has a key where its turn is to come, and is in the table
 module _ (a k : ℕ) (s : State) (keys : List ℕ) (Q : Queued a k s keys) (pos : 0 < a) where
   pub within : (j : ℕ) → 0 < area (cluster s j) → j < length keys
-  within j p = go (decLt j (length keys))
-    where
-      go : Dec (j < length keys) → j < length keys
-      go (yes l) = l
-      go (no l) = absurd (omega (arith, ap area (List·getD-eq-default (s .clusters) newCluster {n = j} (omega (arith, Q .wide)))))
+  within j p = by-cases (decLt j (length keys))
+      (λ l. l)
+      (λ l. absurd (omega (arith, ap area (List·getD-eq-default (s .clusters) newCluster {n = j} (omega (arith, Q .wide))))))
 
   module _ (e : area (cluster s k) ≡ a) where
     pub key-here : getD keys k 0 ≡ a
@@ -167,7 +153,7 @@ unfolding rekey
 rekey-still k s u keys e = go (ltb (length (s .log)) (length (u .log))) refl
   where
     go : (b : Bool) → ltb (length (s .log)) (length (u .log)) ≡ b → (if b then set (set keys k 0) (target (u .log)) (area (cluster u (target (u .log)))) else set keys k 0) ≡ set keys k 0
-    go true z = absurd (let l : length (s .log) < length (u .log) = ltb→lt (length (s .log)) (length (u .log)) (subst T (sym z) tt) in omega (arith, ap length e))
+    go true z = absurd (let l : length (s .log) < length (u .log) = ltb-true (length (s .log)) (length (u .log)) z in omega (arith, ap length e))
     go false z = refl
 
 pub rekey-moved : (k : ℕ) (s u : State) (keys : List ℕ) (x : Event) → u .log ≡ x ∷ s .log → rekey k s u keys ≡ set (set keys k 0) (target (u .log)) (area (cluster u (target (u .log))))
@@ -221,12 +207,10 @@ module _ {image : List ℕ} {size : ℕ} (a k : ℕ) (s : State) (keys : List �
       (λ z l n. isolated-cases o w h a k s (λ u. Queued a (suc k) u (rekey k s u keys)) (still-queued (put k s) refl refl) (still-queued s refl refl))
       (λ z l t N. let y = target-stands a k s G pos e t N in
       moved-queued t (merge k t s) (plain k t) (k≢t a k s G pos e t N) (t-slot a k s G pos e t N) (area-pos (G .sound .basic) t (y .0) (y .1))
-      (merge-moved k t s (k≢t a k s G pos e t N) (k-slot a k s G pos e t N) (t-slot a k s G pos e t N)) refl refl
-      (inl (omega (arith, ap area (merge-f k t s (k≢t a k s G pos e t N) (k-slot a k s G pos e t N) (t-slot a k s G pos e t N))))))
+      (merge-changes a k s G pos e t N) refl refl (inl (omega (arith, ap area (merge-from a k s G pos e t N)))))
       (λ z l t N b. let y = target-stands a k s G pos e t N in
       moved-queued t (deepen b k t s) (deepened k t) (k≢t a k s G pos e t N) (t-slot a k s G pos e t N) (area-pos (G .sound .basic) t (y .0) (y .1))
-      (deepen-moved k t s (k≢t a k s G pos e t N) (k-slot a k s G pos e t N) (t-slot a k s G pos e t N) b) refl refl
-      (inr (ap area (deepen-f k t s (k≢t a k s G pos e t N) (k-slot a k s G pos e t N) (t-slot a k s G pos e t N) b) ∙ e, omega arith)))
+      (deepen-changes a k s G pos e t N b) refl refl (inr (ap area (deepen-from a k s G pos e t N b) ∙ e, omega arith)))
 
   -- the turn is that visit
   pub turn-visits : (o : RunnerConfig) (w h : ℕ) → turn o w h (queue s keys) ≡ queue (visit o w h a k s) (rekey k s (visit o w h a k s) keys)
@@ -251,27 +235,10 @@ module _ {image : List ℕ} {size : ℕ} (n a k : ℕ) (s : State) (G : Going im
   put-falls = still-falls
 
   visit-falls : (o : RunnerConfig) (w h : ℕ) → Falls (visit o w h a k s)
-  unfolding merge deepen emptied mergedTo
   visit-falls o w h =
-      visit-cases o w h a k s Falls (λ x. still-falls) (λ z l. put-falls) (λ z l y. isolated-cases o w h a k s Falls put-falls still-falls) plainly deeply
-    where
-      plainly : area (cluster s k) ≡ a → a ≤ o .hierarchical → (t : ℕ) → Near s (label s (getD (cluster s k .pixels) 0 0)) t → Falls (merge k t s)
-      plainly z l t N = (omega (arith, fewer-roots a k s G B pos e fits t N M gone (M .table), fewer-waits a k s G B pos e fits t N M gone (M .table)), M .table ∙ table)
-        where
-          M : Moved k t s (merge k t s)
-          M = merge-moved k t s (k≢t a k s G pos e t N) (k-slot a k s G pos e t N) (t-slot a k s G pos e t N)
-
-          gone : Root (merge k t s) k → ⊥
-          gone r = omega (arith, r .0, ap area (merge-f k t s (k≢t a k s G pos e t N) (k-slot a k s G pos e t N) (t-slot a k s G pos e t N)))
-
-      deeply : area (cluster s k) ≡ a → a ≤ o .hierarchical → (t : ℕ) → Near s (label s (getD (cluster s k .pixels) 0 0)) t → (b : Bool) → Falls (deepen b k t s)
-      deeply z l t N b = (omega (arith, fewer-roots a k s G B pos e fits t N M gone (M .table), fewer-waits a k s G B pos e fits t N M gone (M .table)), M .table ∙ table)
-        where
-          M : Moved k t s (deepen b k t s)
-          M = deepen-moved k t s (k≢t a k s G pos e t N) (k-slot a k s G pos e t N) (t-slot a k s G pos e t N) b
-
-          gone : Root (deepen b k t s) k → ⊥
-          gone r = N .0 (sym (ap (λ c. c .mergedInto) (deepen-f k t s (k≢t a k s G pos e t N) (k-slot a k s G pos e t N) (t-slot a k s G pos e t N) b)) ∙ r .1)
+      visit-cases o w h a k s Falls (λ x. still-falls) (λ z l. put-falls) (λ z l y. isolated-cases o w h a k s Falls put-falls still-falls)
+      (λ z l t N. let f = merge-fewer a k s G B pos e fits t N in (omega (arith, f .0, f .1), merge-changes a k s G pos e t N .table ∙ table))
+      (λ z l t N b. let f = deepen-fewer a k s G B pos e fits t N b in (omega (arith, f .0, f .1), deepen-changes a k s G pos e t N b .table ∙ table))
 
 module _ (image : List ℕ) (size : ℕ) (o : RunnerConfig) (w h : ℕ) (q : Queue) (cap n : ℕ) where
   -- `count` turns lead to the state before slot k is visited at area a
@@ -317,7 +284,7 @@ module _ (image : List ℕ) (size : ℕ) (o : RunnerConfig) (w h : ℕ) (q : Que
   pass-reached : (a : ℕ) (s : State) → Reached (suc a) 0 s → Reached (suc (suc a)) 0 (pass o w h (suc a) s)
   unfolding pass
   pass-reached a s R = record {
-    going = Going-on (E .going);
+    going = next-area (E .going);
     count = E .count;
     keys = E .keys;
     there = E .there;
@@ -335,24 +302,13 @@ module _ (image : List ℕ) (size : ℕ) (o : RunnerConfig) (w h : ℕ) (q : Que
       E : Reached (suc a) N u
       E = slots-reached a s R N (omega (arith, R .table))
 
-      side : (j : ℕ) {x : ℕ} → Done (suc a) N x j → Done (suc (suc a)) 0 x j
-      side j (inl y) = inl (omega arith)
-      side j (inr y) = inl (omega arith)
-
-      Going-on : Going image size (suc a) N u → Going image size (suc (suc a)) 0 u
-      Going-on G = record { sound = G .sound; past = λ j x. side j (G .past j x) }
-
       small : (j : ℕ) → 0 < area (cluster u j) → j < N
       small j p = omega (arith, within (suc a) N u (E .keys) (E .queued) (omega arith) j p, E .queued .wide, E .table, R .table)
 
       on : (j x v : ℕ) → (0 < x → j < N) → KeyIs (suc a) N x j v → KeyIs (suc (suc a)) 0 x j v
-      on j x v f (inl (inl l, y)) = go (ℕ-discrete x (suc (suc a)))
-        where
-          go : Dec (x ≡ suc (suc a)) → KeyIs (suc (suc a)) 0 x j v
-          go (yes z) = inl (inr (z, omega arith), y)
-          go (no z) = inl (inl (omega arith), y)
+      on j x v f (inl (inl l, y)) = elim (ℕ-discrete x (suc (suc a))) [ yes z ↦ inl (inr (z, omega arith), y) | no z ↦ inl (inl (omega arith), y) ]
       on j x v f (inl (inr l, y)) = absurd (omega (arith, f (omega (arith, l .0)), l .1))
-      on j x v f (inr (z, y)) = inr (side j z, y)
+      on j x v f (inr (z, y)) = inr (inl (elim z [ inl l ↦ omega arith | inr l ↦ omega arith ]), y)
 
   passes-reached : (s : State) → Reached 1 0 s → (m : ℕ) → Reached (suc m) 0 (passes o w h m s)
   unfolding passes
@@ -375,11 +331,9 @@ turn-idle o w h q e = ap (λ p. turnOf o w h p q) e
 pub turns-idle : (o : RunnerConfig) (w h : ℕ) (q : Queue) (m : ℕ) → pick (turns o w h m q .keys) ≡ off → (n : ℕ) → m ≤ n → turns o w h n q ≡ turns o w h m q
 unfolding turns
 turns-idle o w h q m e zero l = ap (λ x. turns o w h x q) (let z : 0 ≡ m = omega arith in z)
-turns-idle o w h q m e (suc n) l = go (ℕ-discrete (suc n) m) (turns-idle o w h q m e n)
-  where
-    go : Dec (suc n ≡ m) → (m ≤ n → turns o w h n q ≡ turns o w h m q) → turns o w h (suc n) q ≡ turns o w h m q
-    go (yes z) ih = ap (λ x. turns o w h x q) z
-    go (no z) ih = ap (turn o w h) (ih (omega arith)) ∙ turn-idle o w h (turns o w h m q) e
+turns-idle o w h q m e (suc n) l = by-cases (ℕ-discrete (suc n) m)
+    (λ z. ap (λ x. turns o w h x q) z)
+    (λ z. ap (turn o w h) (turns-idle o w h q m e n (omega arith)) ∙ turn-idle o w h (turns o w h m q) e)
 
 module _ (o : RunnerConfig) (w h : ℕ) (image : List ℕ) where
   start-queued : Queued 1 0 (prepareStage2 (stage1 o w h image)) (start (prepareStage2 (stage1 o w h image)) .keys)
@@ -401,8 +355,8 @@ module _ (o : RunnerConfig) (w h : ℕ) (image : List ℕ) where
     queued = start-queued;
     total = omega (
       arith,
-      countOf-le (rooted s) (standing (stage1 o w h image)) (λ j x. stood j (root-out s j x)) n,
-      countOf-le (waiting 1 0 s) (standing (stage1 o w h image)) (λ j x. stood j (wait-out 1 0 s j x .0)) n,
+      countOf-le (rooted s) (standing (stage1 o w h image)) (λ j x. stood (stage1 o w h image) j (root-out s j x)) n,
+      countOf-le (waiting 1 0 s) (standing (stage1 o w h image)) (λ j x. stood (stage1 o w h image) j (wait-out 1 0 s j x .0)) n,
       E .few n (omega arith),
     );
     table = length-map (stage1 o w h image .clusters) (λ c. withResidue (c .sum) c);
@@ -417,9 +371,6 @@ module _ (o : RunnerConfig) (w h : ℕ) (image : List ℕ) where
       E : Early image (w * h) (Discarded o image) (T (keyingOn o)) (w * h) (stage1 o w h image)
       E = early o w h image
 
-      stood : (j : ℕ) → Root (prepareStage2 (stage1 o w h image)) j → T (standing (stage1 o w h image) j)
-      stood j r = lt→ltb 0 (area (cluster (stage1 o w h image) j)) (subst (λ c. 0 < area c) (settled (stage1 o w h image) j) (r .0))
-
   idle-at : pick (turns o w h (reached .count) (start (prepareStage2 (stage1 o w h image))) .keys) ≡ off
   idle-at = ap (λ q. pick (q .keys)) (reached .there) ∙ pick-none (reached .keys) (none-pending (stage2 o w h (stage1 o w h image)) (reached .keys) (reached .going) (reached .queued))
 
@@ -430,27 +381,16 @@ module _ (o : RunnerConfig) (w h : ℕ) (image : List ℕ) where
 
   -- whenever no slot is pending, stage 2 is over
   pub turns-end : (m : ℕ) → pick (turns o w h m (start (prepareStage2 (stage1 o w h image))) .keys) ≡ off → turns o w h m (start (prepareStage2 (stage1 o w h image))) .now ≡ stage2 o w h (stage1 o w h image)
-  turns-end m e = go (decLt m (reached .count))
-    where
-      go : Dec (m < reached .count) → turns o w h m (start (prepareStage2 (stage1 o w h image))) .now ≡ stage2 o w h (stage1 o w h image)
-      go (yes l) = ap (λ q. q .now) (sym (turns-idle o w h (start (prepareStage2 (stage1 o w h image))) m e (reached .count) (omega arith)) ∙ reached .there)
-      go (no l) = ap (λ q. q .now) (turns-idle o w h (start (prepareStage2 (stage1 o w h image))) (reached .count) idle-at m (omega arith) ∙ reached .there)
+  turns-end m e = by-cases (decLt m (reached .count))
+      (λ l. ap (λ q. q .now) (sym (turns-idle o w h (start (prepareStage2 (stage1 o w h image))) m e (reached .count) (omega arith)) ∙ reached .there))
+      (λ l. ap (λ q. q .now) (turns-idle o w h (start (prepareStage2 (stage1 o w h image))) (reached .count) idle-at m (omega arith) ∙ reached .there))
 
   -- and that is so after at most 2 × w × h turns
   pub turns-few : (m k : ℕ) → pick (turns o w h m (start (prepareStage2 (stage1 o w h image))) .keys) ≡ some k → m < 2 * (w * h)
-  turns-few m k e = go (decLt m (reached .count))
-    where
-      differ : off ≡ some k → ⊥
-      differ x = subst tell x tt
-        where
-          tell : Option ℕ → Type 0
-          tell off = Unit {0}
-          tell (some j) = ⊥
-
-      go : Dec (m < reached .count) → m < 2 * (w * h)
-      go (yes l) = omega (arith, reached .total)
-      go (no l) =
-          absurd (differ (sym idle-at ∙ sym (ap (λ q. pick (q .keys)) (turns-idle o w h (start (prepareStage2 (stage1 o w h image))) (reached .count) idle-at m (omega arith))) ∙ e))
+  turns-few m k e = by-cases (decLt m (reached .count))
+      (λ l. omega (arith, reached .total))
+      (λ l. let idle = ap (λ q. pick (q .keys)) (turns-idle o w h (start (prepareStage2 (stage1 o w h image))) (reached .count) idle-at m (omega arith)) ∙ idle-at in
+      let z : _≡_ {A = ℕ} 0 1 = cc (idle, e) in absurd (omega arith))
 
 -- ---- what holds before every turn
 

@@ -1,6 +1,6 @@
 -- With no label 0 on the image, every standing cluster is put out, and the first output that holds a pixel owns it.
 use mathlib.Core.Path.{_≡_, refl, sym, ap, ap₂, _∙_, subst}
-use mathlib.Core.Logic.{_≢_, _⊎_, inl, inr}
+use mathlib.Core.Logic.{_≢_, _⊎_, inl, inr, by-cases}
 use mathlib.Core.Bool.{Bool, true, false, _||_}
 use mathlib.Core.List.{List, [], _∷_, _++_}
 use Prim.Native.Nat.{ℕ, zero, suc, _+_, _*_, _≤_, _<_}
@@ -15,11 +15,11 @@ use Rattle.rules.specs.Stage2.{areasOf, neighbours, isolated, visit, pas
 use Rattle.rules.specs.Ledger.{Held, enter, ledger}
 use Rattle.rules.specs.Claim.{bit, occurs, countOf, Stands}
 use Rattle.rules.proofs.Owned.{owned}
-use Rattle.rules.proofs.Facts.{is-true, T-dec, T-bit, bit-T, eqb-yes, eqb-no, countOf-one, countOf-lt, occurs-append, countOf-bound}
+use Rattle.rules.proofs.Facts.{is-true, T-dec, T-bit, eqb-yes, eqb-no, countOf-one, countOf-lt, occurs-append, countOf-bound}
 use Rattle.rules.proofs.Forest.{Inside, inside-not}
-use Rattle.rules.proofs.Basic.{Basic, Moved, three, merge-moved, deepen-f, deepen-moved, lab-from, lab-other, plain-down, plain-o, deepened-o}
+use Rattle.rules.proofs.Basic.{Basic, Moved, three, lab-from, lab-other, plain-down, plain-o, deepened-o, some-held, held-some}
 use Rattle.rules.proofs.Visits.{Going, pass-going, All, insert-all, Near, neighbours-near, visit-cases, visit-going, times-keep}
-use Rattle.rules.proofs.Visits.{stands, root, mine, target-stands, target-root, k≢t, k-slot, t-slot, merge-going, deepen-going}
+use Rattle.rules.proofs.Visits.{stands, root, mine, target-stands, target-root, k≢t, merge-going, deepen-going, merge-changes, deepen-changes, deepen-from}
 use Rattle.rules.proofs.Painting.{First}
 use Rattle.rules.proofs.Connected.{covers}
 
@@ -38,15 +38,11 @@ in-last : (k : ℕ) (xs : List ℕ) → In k (xs ++ (k ∷ []))
 in-last k [] = inl refl
 in-last k (x ∷ xs) = inr (in-last k xs)
 
-in-snoc : (x k : ℕ) (xs : List ℕ) → In x (xs ++ (k ∷ [])) → In x xs ⊎ (x ≡ k)
+pub in-snoc : (x k : ℕ) (xs : List ℕ) → In x (xs ++ (k ∷ [])) → In x xs ⊎ (x ≡ k)
 in-snoc x k [] (inl e) = inr e
 in-snoc x k [] (inr i) = absurd i
 in-snoc x k (y ∷ ys) (inl e) = inl (inl e)
-in-snoc x k (y ∷ ys) (inr i) = pick (in-snoc x k ys i)
-  where
-    pick : In x ys ⊎ (x ≡ k) → ((x ≡ y) ⊎ In x ys) ⊎ (x ≡ k)
-    pick (inl j) = inl (inr j)
-    pick (inr e) = inr e
+in-snoc x k (y ∷ ys) (inr i) = elim (in-snoc x k ys i) [ inl j ↦ inl (inr j) | inr e ↦ inr e ]
 
 pub first-find : (h : Held) (p j : ℕ) (xs : List ℕ) → In j xs → T (h j p) → (x : ℕ) × First h p xs x
 first-find h p j [] i t = absurd i
@@ -109,11 +105,9 @@ not-in x [] n = refl
 not-in x (y ∷ ys) n = omega (arith, ap bit (eqb-no x y (λ e. n (inl e))), not-in x ys (λ i. n (inr i)))
 
 once-more : (k : ℕ) (xs : List ℕ) → (In k xs → ⊥) → ((x : ℕ) → occurs x xs ≤ 1) → (x : ℕ) → occurs x (xs ++ (k ∷ [])) ≤ 1
-once-more k xs n a x = pick (ℕ-discrete x k)
-  where
-    pick : Dec (x ≡ k) → occurs x (xs ++ (k ∷ [])) ≤ 1
-    pick (yes e) = subst (λ m. occurs m (xs ++ (k ∷ [])) ≤ 1) (sym e) (omega (arith, occurs-append k xs (k ∷ []), not-in k xs n, ap bit (eqb-yes k k refl)))
-    pick (no d) = omega (arith, occurs-append x xs (k ∷ []), a x, ap bit (eqb-no x k d))
+once-more k xs n a x = by-cases (ℕ-discrete x k)
+    (λ e. subst (λ m. occurs m (xs ++ (k ∷ [])) ≤ 1) (sym e) (omega (arith, occurs-append k xs (k ∷ []), not-in k xs n, ap bit (eqb-yes k k refl))))
+    (λ d. omega (arith, occurs-append x xs (k ∷ []), a x, ap bit (eqb-no x k d)))
 
 -- ---- areas
 
@@ -149,22 +143,16 @@ occurs-length p [] n = absurd (n refl)
 occurs-length p (x ∷ xs) n = omega arith
 
 module _ {image : List ℕ} {size : ℕ} {h : Held} {s : State} (B : Basic image size h s) where
-  holds-occurs : (k p : ℕ) → T (h k p) → occurs p (cluster s k .pixels) ≢ 0
-  holds-occurs k p x e = let b : bit (h k p) ≡ 1 = T-bit (h k p) x in omega (arith, B .lists k p)
-
-  occurs-holds : (k p : ℕ) → occurs p (cluster s k .pixels) ≢ 0 → T (h k p)
-  occurs-holds k p n = bit-T (h k p) (λ z. n (B .lists k p ∙ z))
-
   pub area-countOf : (k : ℕ) → area (cluster s k) ≡ countOf (h k) size
   area-countOf k =
-      sym (total-length (cluster s k .pixels) size (λ p n. omega (arith, B .width, B .places k p (occurs-holds k p n))))
+      sym (total-length (cluster s k .pixels) size (λ p n. omega (arith, B .width, B .places k p (some-held B k p n))))
       ∙ total-countOf (cluster s k .pixels) (h k) (B .lists k) size
 
   pub area-le : (k : ℕ) → area (cluster s k) ≤ size
   area-le k = omega (arith, area-countOf k, countOf-bound (h k) size)
 
   pub area-pos : (k p : ℕ) → T (h k p) → 0 < area (cluster s k)
-  area-pos k p x = occurs-length p (cluster s k .pixels) (holds-occurs k p x)
+  area-pos k p x = occurs-length p (cluster s k .pixels) (λ z. omega (arith, held-some B k p x))
 
 -- ---- the outputs before slot k is visited at area a
 
@@ -207,22 +195,18 @@ skip-shows a k s W d = record {
   where
     pick : (j : ℕ) → Due a (suc k) s j → Due a k s j
     pick j (inl x) = inl x
-    pick j (inr x) = side (ℕ-discrete j k)
-      where
-        side : Dec (j ≡ k) → Due a k s j
-        side (yes e) = absurd (d (subst (λ m. area (cluster s m) ≡ a) e (x .0)))
-        side (no e) = inr (x .0, omega arith)
+    pick j (inr x) = elim (ℕ-discrete j k) [ yes e ↦ absurd (d (subst (λ m. area (cluster s m) ≡ a) e (x .0))) | no e ↦ inr (x .0, omega arith) ]
 
 module _ {image : List ℕ} {o : RunnerConfig} {size n : ℕ} where
   -- the first that holds p, after k is put out, owns p
   snoc-firsts : (a k : ℕ) (s : State) → Going image size a k s → Shows o size n a k s → (p x : ℕ) → First (ledger (s .log)) p (s .outputs ++ (k ∷ [])) x → T (owned (s .log) x p)
-  snoc-firsts a k s G W p x f = pick (first-snoc (ledger (s .log)) p k x (s .outputs) f)
+  snoc-firsts a k s G W p x f = elim (first-snoc (ledger (s .log)) p k x (s .outputs) f) [ inl g ↦ W .firsts p x g | inr g ↦ mineOr (g .0) (G .sound .forest .owner x p t) ]
     where
       t : T (ledger (s .log) x p)
       t = first-holds (ledger (s .log)) p x (s .outputs ++ (k ∷ [])) f
 
       mineOr : ((y : ℕ) → In y (s .outputs) → T (ledger (s .log) y p) → ⊥) → (j : ℕ) × T (owned (s .log) j p) → T (owned (s .log) x p)
-      mineOr none w = go (ℕ-discrete (w .0) x)
+      mineOr none w = elim (ℕ-discrete (w .0) x) [ yes e ↦ subst (λ m. T (owned (s .log) m p)) e (w .1) | no d ↦ rooted d (ℕ-discrete (cluster s (w .0) .mergedInto) 0) ]
         where
           held : T (ledger (s .log) (w .0) p)
           held = G .sound .forest .own-held (w .0) p (w .1)
@@ -234,26 +218,18 @@ module _ {image : List ℕ} {o : RunnerConfig} {size n : ℕ} where
               absurd (inside-not (λ a b. T (ledger (s .log) a b)) (w .0) x (G .sound .forest .own-inner (w .0) x p (w .1) t d)
               (subst (λ m. Inside (λ a b. T (ledger (s .log) a b)) x m) l (G .sound .forest .under-top x p t (λ e. d (sym (e ∙ l))))))
 
-          go : Dec (w .0 ≡ x) → T (owned (s .log) x p)
-          go (yes e) = subst (λ m. T (owned (s .log) m p)) e (w .1)
-          go (no d) = rooted d (ℕ-discrete (cluster s (w .0) .mergedInto) 0)
-
-      pick : First (ledger (s .log)) p (s .outputs) x ⊎ (((y : ℕ) → In y (s .outputs) → T (ledger (s .log) y p) → ⊥) × (k ≡ x)) → T (owned (s .log) x p)
-      pick (inl g) = W .firsts p x g
-      pick (inr g) = mineOr (g .0) (G .sound .forest .owner x p t)
-
   put-shows : (a k : ℕ) (s : State) → Going image size a k s → Shows o size n a k s → 0 < a → area (cluster s k) ≡ a → Over o size a s k → Shows o size n a (suc k) (put k s)
   unfolding put
   put-shows a k s G W pos e₀ v = record {
     inner = λ j z r. in-left j (s .outputs) (k ∷ []) (W .inner j z r);
     outer = λ j z r u. out j z r u (ℕ-discrete j k);
-    over = λ x i r. done x r (in-snoc x k (s .outputs) i);
+    over = λ x i r. elim (in-snoc x k (s .outputs) i) [ inl i ↦ W .over x i r | inr e ↦ subst (Over o size a s) (sym e) v ];
     firsts = snoc-firsts a k s G W;
     bounds = W .bounds;
     lit = W .lit;
     table = W .table;
     once = once-more k (s .outputs) fresh-entry (W .once);
-    turned = λ x i r. turn x r (in-snoc x k (s .outputs) i);
+    turned = λ x i r. elim (in-snoc x k (s .outputs) i) [ inl i ↦ due-later a k s x (W .turned x i r) | inr z ↦ subst (Due a (suc k) s) (sym z) (inr (e₀, omega arith)) ];
   }
     where
       out : (j : ℕ) → Stands (ledger (s .log)) j → cluster s j .mergedInto ≡ 0 → Due a (suc k) s j → Dec (j ≡ k) → In j (s .outputs ++ (k ∷ []))
@@ -268,19 +244,8 @@ module _ {image : List ℕ} {o : RunnerConfig} {size n : ℕ} where
           never (inl l) = omega arith
           never (inr l) = omega arith
 
-      turn : (x : ℕ) → cluster s x .mergedInto ≡ 0 → In x (s .outputs) ⊎ (x ≡ k) → Due a (suc k) s x
-      turn x r (inl i) = due-later a k s x (W .turned x i r)
-      turn x r (inr z) = subst (Due a (suc k) s) (sym z) (inr (e₀, omega arith))
-
-      done : (x : ℕ) → cluster s x .mergedInto ≡ 0 → In x (s .outputs) ⊎ (x ≡ k) → Over o size a s x
-      done x r (inl i) = W .over x i r
-      done x r (inr e) = subst (Over o size a s) (sym e) v
-
   module _ (a k : ℕ) (s : State) (G : Going image size a k s) (W : Shows o size n a k s) (pos : 0 < a) (e : area (cluster s k) ≡ a) (nh : a ≤ o .hierarchical)
       (t : ℕ) (N : Near s (label s (getD (cluster s k .pixels) 0 0)) t) where
-    f₀ : ℕ
-    f₀ = getD (cluster s k .pixels) 0 0
-
     k-holds : T (ledger (s .log) k (getD (cluster s k .pixels) 0 0))
     k-holds = stands a k s G pos e
 
@@ -313,12 +278,6 @@ module _ {image : List ℕ} {o : RunnerConfig} {size n : ℕ} where
     not-t : (x : ℕ) → In x (s .outputs) → x ≢ t
     not-t x i z = no-root t (subst (λ m. In m (s .outputs)) z i) t-root
 
-    apart : (p : ℕ) → T (ledger (s .log) t p) → T (ledger (s .log) k p) → ⊥
-    apart p x y = ne (sym (G .sound .tops k p y k-root) ∙ G .sound .tops t p x t-root)
-
-    t-slot′ : t < length (s .clusters)
-    t-slot′ = t-slot a k s G pos e t N
-
     module _ {s′ : State} (M : Moved k t s s′) where
       t-area : area (cluster s′ t) ≡ area (cluster s t) + area (cluster s k)
       t-area = ap length (M .t-pixels) ∙ length-append (cluster s t .pixels) (cluster s k .pixels)
@@ -338,14 +297,12 @@ module _ {image : List ℕ} {o : RunnerConfig} {size n : ℕ} where
       still-over x i r = no-root x i (sym (ap (λ c. c .mergedInto) (M .other x (not-k x i) (not-t x i))) ∙ r)
 
       new-lit : (p : ℕ) → p < size → label s′ p ≢ 0
-      new-lit p l z = pick (T-dec (ledger (s .log) k p))
-        where
-          pick : Dec (T (ledger (s .log) k p)) → ⊥
-          pick (yes x) = N .0 (sym (lab-from (G .sound .basic) k t ne apart t-slot′ M p x) ∙ z)
-          pick (no x) = W .lit p l (sym (lab-other (G .sound .basic) k t ne apart t-slot′ M p x) ∙ z)
+      new-lit p l z = by-cases (T-dec (ledger (s .log) k p))
+          (λ x. N .0 (sym (lab-from (G .sound .basic) k t M p x) ∙ z))
+          (λ x. W .lit p l (sym (lab-other (G .sound .basic) k t M p x) ∙ z))
 
     M₁ : Moved k t s (merge k t s)
-    M₁ = merge-moved k t s ne (k-slot a k s G pos e t N) t-slot′
+    M₁ = merge-changes a k s G pos e t N
 
     merge-shows : Shows o size n a (suc k) (merge k t s)
     unfolding merge emptied withCluster withResidue
@@ -409,14 +366,14 @@ module _ {image : List ℕ} {o : RunnerConfig} {size n : ℕ} where
         s′ = deepen hollow k t s
 
         M : Moved k t s s′
-        M = deepen-moved k t s ne (k-slot a k s G pos e t N) t-slot′ hollow
+        M = deepen-changes a k s G pos e t N hollow
 
         old : (j : ℕ) → j ≢ t → Stands h′ j → Stands h j
         old j v z = (z .0, subst (λ g. T (g (z .0))) (deepened-o h k t j v) (z .1))
 
         none : (x : ℕ) → cluster s′ x .mergedInto ≡ 0 → In x (s .outputs) ⊎ (x ≡ k) → ⊥
         none x r (inl i) = still-over M x i r
-        none x r (inr z) = N .0 (sym (ap (λ c. c .mergedInto) (deepen-f k t s ne (k-slot a k s G pos e t N) t-slot′ hollow)) ∙ subst (λ m. cluster s′ m .mergedInto ≡ 0) z r)
+        none x r (inr z) = N .0 (sym (ap (λ c. c .mergedInto) (deepen-from a k s G pos e t N hollow)) ∙ subst (λ m. cluster s′ m .mergedInto ≡ 0) z r)
 
         no-t : (y : ℕ) → In y (s .outputs) ⊎ (y ≡ k) → y ≢ t
         no-t y (inl i) = not-t y i
@@ -452,7 +409,7 @@ module _ {image : List ℕ} (o : RunnerConfig) (w h : ℕ) {n : ℕ} where
         holds p l x = subst (λ m. T (ledger (s .log) m p)) x (B .shown p (W .lit p l))
 
         whole : (p : ℕ) → p < w * h → label s p ≡ k
-        whole = covers o w h s k (positive q w h on .0) (positive q w h on .1) (W .lit) (mine a k s G pos e) on (λ p l x. holds-occurs B k p (holds p l x)) none
+        whole = covers o w h s k (positive q w h on .0) (positive q w h on .1) (W .lit) (mine a k s G pos e) on (λ p l x z. omega (arith, held-some B k p (holds p l x))) none
 
         full : a ≡ w * h
         full = sym e ∙ area-countOf B k ∙ countOf-all (ledger (s .log) k) (w * h) (λ p l. holds p l (whole p l))
@@ -495,11 +452,9 @@ module _ {image : List ℕ} (o : RunnerConfig) (w h : ℕ) {n : ℕ} where
 
       due : (j : ℕ) → Stands (ledger (u .log)) j → Due (suc (suc a)) 0 u j → Due (suc a) N u j
       due j z (inr d) = absurd (omega arith)
-      due j z (inl d) = pick (ℕ-discrete (area (cluster u j)) (suc a))
-        where
-          pick : Dec (area (cluster u j) ≡ suc a) → Due (suc a) N u j
-          pick (yes x) = inr (x, omega (arith, end .0 .sound .basic .slots j (z .0) (z .1), W .table, G .1 .table))
-          pick (no x) = inl (omega arith)
+      due j z (inl d) = by-cases (ℕ-discrete (area (cluster u j)) (suc a))
+          (λ x. inr (x, omega (arith, end .0 .sound .basic .slots j (z .0) (z .1), W .table, G .1 .table)))
+          (λ x. inl (omega arith))
 
       next-due : (x : ℕ) → Due (suc a) N u x → Due (suc (suc a)) 0 u x
       next-due x (inl l) = inl (omega arith)
@@ -515,11 +470,7 @@ module _ {image : List ℕ} (o : RunnerConfig) (w h : ℕ) {n : ℕ} where
 
   -- at the end all that stands is put out
   pub all-out : (s : State) → Going image (w * h) (suc (w * h)) 0 s → Shows o (w * h) n (suc (w * h)) 0 s → (j : ℕ) → Stands (ledger (s .log)) j → In j (s .outputs)
-  all-out s G W j z = pick (ℕ-discrete (cluster s j .mergedInto) 0)
-    where
-      pick : Dec (cluster s j .mergedInto ≡ 0) → In j (s .outputs)
-      pick (yes r) = W .outer j z r (inl (omega (arith, area-le (G .sound .basic) j)))
-      pick (no r) = W .inner j z r
+  all-out s G W j z = elim (ℕ-discrete (cluster s j .mergedInto) 0) [ yes r ↦ W .outer j z r (inl (omega (arith, area-le (G .sound .basic) j))) | no r ↦ W .inner j z r ]
 
 pub areas-le : (size : ℕ) (cs : List Cluster) (l : List ℕ) → ((k : ℕ) → area (getD cs k newCluster) ≤ size) → All (λ x. x ≤ size) l → All (λ x. x ≤ size) (areasOf cs l)
 unfolding areasOf
@@ -535,19 +486,13 @@ pub whole-alone : (o : RunnerConfig) (w h : ℕ) {image : List ℕ} (a k : ℕ) 
 whole-alone o w h a k s G pos e whole = go (neighbours w h s k) (neighbours-near o w h s k)
   where
     held : (p : ℕ) → p < w * h → T (ledger (s .log) k p)
-    held p l = pick (T-dec (ledger (s .log) k p))
-      where
-        pick : Dec (T (ledger (s .log) k p)) → T (ledger (s .log) k p)
-        pick (yes x) = x
-        pick (no x) = absurd (omega (
-          arith,
-          area-countOf (G .sound .basic) k,
-          countOf-lt (ledger (s .log) k) (λ q. true) (λ q z. tt) (w * h) p l tt x,
-          countOf-bound (λ q. true) (w * h),
-        ))
+    held p l = by-cases (T-dec (ledger (s .log) k p)) (λ x. x)
+        (λ x. absurd (omega (arith, area-countOf (G .sound .basic) k, countOf-lt (ledger (s .log) k) (λ q. true) (λ q z. tt) (w * h) p l tt x, countOf-bound (λ q. true) (w * h))))
 
     go : (ts : List ℕ) → All (Near s (label s (getD (cluster s k .pixels) 0 0))) ts → ts ≡ []
     go [] N = refl
     go (t ∷ ts) N =
-        let H = target-stands a k s G pos e t (N .0) in
-        absurd (N .0 .1 (sym (G .sound .tops t (H .0) (H .1) (target-root a k s G pos e t (N .0))) ∙ G .sound .tops k (H .0) (held (H .0) (omega (arith, G .sound .basic .width, G .sound .basic .places t (H .0) (H .1)))) (root a k s G pos e) ∙ sym (mine a k s G pos e)))
+        let (p, x) = target-stands a k s G pos e t (N .0) in
+        let b = G .sound .basic in
+        absurd (N .0 .1 (sym (G .sound .tops t p x (target-root a k s G pos e t (N .0)))
+        ∙ G .sound .tops k p (held p (omega (arith, b .width, b .places t p x))) (root a k s G pos e) ∙ sym (mine a k s G pos e)))

@@ -1,12 +1,13 @@
 -- What is read of a slot in buffers that a state lies in; painting from the buffers of a run answers 0 and gives its picture.
 use mathlib.Core.Path.{_≡_, refl, sym, ap, ap₂, _∙_, subst}
 use mathlib.Core.Logic.{_≢_, inl, inr}
-use mathlib.Core.Bool.{Bool, true, false, not, _&&_, _||_}
+use mathlib.Core.Bool.{Bool, true, false}
 use mathlib.Core.List.{List, [], _∷_}
 use Prim.Native.Nat.{ℕ, zero, suc, _*_, _≤_, _<_}
 use native.Mathlib.Decide.{ℕ-discrete}
 use native.Mathlib.Omega.{arith}
-use lib.Dec.{T, leb, ltb, eqb, le→leb, lt→ltb}
+use borrow.Author.Tests.{eqb-true, lt-ltb, le-leb}
+use lib.Dec.{T, ltb, eqb, lt→ltb}
 use lib.ListN.{length, getD, replicate}
 use Rattle.rules.specs.Base.{if_then_else_, each, eachBack, timesBack}
 use Rattle.rules.specs.Color.{RunnerConfig, ColorSum, average, hasAverage}
@@ -19,8 +20,7 @@ use Rattle.rules.specs.Claim.{occurs, bit}
 use Rattle.rules.specs.Ranges.{Below}
 use Rattle.rules.specs.Paint.{reads, Painted, slotNumber, fiveFrom, sumOf, residueOf, pixelsOf, entryAnswer, entriesAnswer, paintSlot, paintEntries, painting, Lies}
 use Rattle.rules.specs.Demand3.{Agrees}
-use Rattle.rules.proofs.Facts.{eqb-no, eqb-yes, bit-T}
-use Rattle.rules.proofs.Visits.{eqb-is}
+use Rattle.rules.proofs.Facts.{eqb-no, eqb-yes, bit-T, T-and, is-true}
 use Rattle.rules.proofs.Outputs.{In}
 use Rattle.rules.proofs.Pictures.{Paintable, run-paintable}
 use Rattle.rules.proofs.Moments.{run-returned}
@@ -55,27 +55,13 @@ module _ (size : ℕ) (s : State) (ls : List ℕ) (same : (p : ℕ) → p < size
   reads-walk (suc c) (suc p) e b =
       let r = reads-walk c (link s p) (omega arith) (b .1) in
       let q : getD ls p 0 ≡ link s p = same p (b .0) in (
-        both (ltb p size) (reads size ls (getD ls p 0) c) (lt→ltb p size (b .0)) (subst (λ x. T (reads size ls x c)) (sym q) (r .0)),
+        T-and (ltb p size) (reads size ls (getD ls p 0) c) (lt→ltb p size (b .0)) (subst (λ x. T (reads size ls x c)) (sym q) (r .0)),
         ap (λ l. p ∷ l) (ap (λ x. walk (λ y. getD ls y 0) x c) q ∙ r .1),
       )
-    where
-      both : (x y : Bool) → T x → T y → T (x && y)
-      both true y a b = b
-      both false y a b = a
 
 pub has-average : (x : ColorSum) → 0 < x .count → x .r ≤ 255 * x .count → x .g ≤ 255 * x .count → x .b ≤ 255 * x .count → x .a ≤ 255 * x .count → T (hasAverage x)
 unfolding hasAverage
-has-average x z r g b a =
-    all (eqb (x .count) 0) (leb (x .r) (255 * x .count)) (leb (x .g) (255 * x .count)) (leb (x .b) (255 * x .count)) (leb (x .a) (255 * x .count)) (eqb-no (x .count) 0 (λ e. omega arith))
-    (le→leb (x .r) (255 * x .count) r) (le→leb (x .g) (255 * x .count) g) (le→leb (x .b) (255 * x .count) b) (le→leb (x .a) (255 * x .count) a)
-  where
-    all : (z a b c d : Bool) → z ≡ false → T a → T b → T c → T d → T (not z && a && b && c && d)
-    all true a b c d e x y v w = absurd (subst T e tt)
-    all false true true true true e x y v w = tt
-    all false true true true false e x y v w = w
-    all false true true false d e x y v w = absurd v
-    all false true false c d e x y v w = absurd y
-    all false false b c d e x y v w = absurd x
+has-average x z r g b a = rw (eqb-no (x .count) 0 (λ e. omega arith), le-leb (x .r) _ r, le-leb (x .g) _ g, le-leb (x .b) _ b, le-leb (x .a) _ a) tt
 
 -- ---- one slot of a state that agrees with a ledger
 
@@ -119,16 +105,12 @@ module _ {o : RunnerConfig} {w h : ℕ} {image : List ℕ} {held : Held} {n m : 
 
   pub entry-passes : Paintable (w * h) n (cluster s k) k → entryAnswer (w * h) n ls tb k ≡ 0
   unfolding entryAnswer
-  entry-passes P =
-      go (ltb k n) (hasAverage (residueOf tb k)) (leb (slotNumber tb k 1) (w * h)) (reads (w * h) ls (slotNumber tb k 0) (slotNumber tb k 1)) (lt→ltb k n l)
-      (subst (λ x. T (hasAverage x)) (sym slot-residue) (has-average (cluster s k .residue) (P .some) (P .r) (P .g) (P .b) (P .a))) (le→leb (slotNumber tb k 1) (w * h) (omega (arith, count, P .pixels))) (slot-pixels .0)
-    where
-      go : (a b c d : Bool) → T a → T b → T c → T d → _≡_ {A = ℕ} (if not a then 8 else (if not b then 9 else (if not c || not d then 10 else 0))) 0
-      go true true true true x y z v = refl
-      go true true true false x y z v = absurd v
-      go true true false d x y z v = absurd z
-      go true false c d x y z v = absurd y
-      go false b c d x y z v = absurd x
+  entry-passes P = rw (
+    lt-ltb k n l,
+    is-true (hasAverage (residueOf tb k)) (subst (λ x. T (hasAverage x)) (sym slot-residue) (has-average (cluster s k .residue) (P .some) (P .r) (P .g) (P .b) (P .a))),
+    le-leb (slotNumber tb k 1) (w * h) (omega (arith, count, P .pixels)),
+    is-true (reads (w * h) ls (slotNumber tb k 0) (slotNumber tb k 1)) (slot-pixels .0),
+  )
 
   pub entry-paints : (picture : List ℕ) → paintSlot ls tb k picture ≡ paintCluster s k picture
   unfolding paintSlot paintCluster
@@ -160,7 +142,7 @@ module _ (size n : ℕ) (ls tb os : List ℕ) where
 
       go : (b : Bool) → eqb (at i) 0 ≡ b → (if b then entriesAnswer size n ls tb os i else at i) ≢ 0
           → (entriesAnswer size n ls tb os i ≢ 0 → Found (entriesAnswer size n ls tb os i) i) → Found (if b then entriesAnswer size n ls tb os i else at i) (suc i)
-      go true z x ih = let r = ih x in (r .0, omega (arith, r .1), r .2, λ k l b. later (r .0) k (r .3) (eqb-is (at i) 0 z) l b (ℕ-discrete k i))
+      go true z x ih = let r = ih x in (r .0, omega (arith, r .1), r .2, λ k l b. later (r .0) k (r .3) (eqb-true (at i) 0 z) l b (ℕ-discrete k i))
       go false z x ih = (i, omega arith, refl, λ k l b. absurd (omega arith))
 
 -- ---- a run

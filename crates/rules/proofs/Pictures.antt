@@ -1,6 +1,6 @@
 -- The picture clause of demand 3: keying off.
 use mathlib.Core.Path.{_≡_, refl, sym, ap, _∙_, subst}
-use mathlib.Core.Logic.{_↔_, _≢_, _⊎_, inl, inr}
+use mathlib.Core.Logic.{_↔_, _≢_, inl, inr}
 use mathlib.Core.Bool.{Bool, true, false}
 use mathlib.Core.List.{List, [], _∷_}
 use Prim.Native.Nat.{ℕ, zero, suc, _+_, _*_, _≤_, _<_}
@@ -10,7 +10,7 @@ use lib.Dec.{T, eqb, ltb, lt→ltb, ltb→lt}
 use lib.ListN.{length, getD}
 use Rattle.rules.specs.Base.{if_then_else_, keep}
 use Rattle.rules.specs.Color.{RunnerConfig, ColorSum, keyingOn, pixel, average, one, _⊕_}
-use Rattle.rules.specs.State.{Cluster, State, cluster, label, area, withResidue}
+use Rattle.rules.specs.State.{Cluster, State, cluster, label, withResidue}
 use Rattle.rules.specs.Stage2.{prepareStage2}
 use Rattle.rules.specs.Picture.{paint}
 use Rattle.rules.specs.Run.{run, stage1, stage2, dropEmpty}
@@ -51,7 +51,7 @@ prepareStage2-shows : (o : RunnerConfig) (w h : ℕ) (image : List ℕ) → (T (
 unfolding prepareStage2 withResidue
 prepareStage2-shows o w h image off s E G = record {
   inner = λ j z r. absurd (idle j z r);
-  outer = λ j z r d. absurd (late j z d);
+  outer = λ j z r d. absurd (elim d [ inl d ↦ omega (arith, area-pos (G .sound .basic) j (z .0) (z .1)) | inr d ↦ omega arith ]);
   over = λ x i r. absurd (subst (In x) (E .quiet) i);
   firsts = λ p x f. absurd (subst (λ l. First (ledger (s .log)) p l x) (E .quiet) f);
   bounds = areas-le (w * h) (s .clusters) [] (λ k. area-le (E .basic) k) tt;
@@ -63,10 +63,6 @@ prepareStage2-shows o w h image off s E G = record {
   where
     idle : (j : ℕ) → Stands (ledger (s .log)) j → cluster (prepareStage2 s) j .mergedInto ≢ 0 → ⊥
     idle j z r = r (ap (λ c. c .mergedInto) (settled s j) ∙ E .roots j)
-
-    late : (j : ℕ) → Stands (ledger (s .log)) j → (area (cluster (prepareStage2 s) j) < 1) ⊎ ((area (cluster (prepareStage2 s) j) ≡ 1) × (j < 0)) → ⊥
-    late j z (inl d) = omega (arith, area-pos (G .sound .basic) j (z .0) (z .1))
-    late j z (inr d) = omega arith
 
 -- p is shown in the colour of the cluster that owns it
 pub run-pictured : (o : RunnerConfig) (w h : ℕ) (image : List ℕ) → (T (keyingOn o) → ⊥) → (p : ℕ) → p < w * h → Shown (w * h) image (ledger (run o w h image .log)) (stateView (run o w h image)) (paint (w * h) (run o w h image)) p

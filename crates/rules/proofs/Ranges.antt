@@ -6,12 +6,12 @@ use mathlib.Core.List.{List, [], _∷_, _++_}
 use Prim.Native.Nat.{ℕ, suc, _+_, _*_, _≤_, _<_}
 use native.Mathlib.Decide.{ℕ-discrete}
 use native.Mathlib.Omega.{arith}
-use lib.Dec.{T, eqb, ltb, ltb→lt, eqb→eq}
+use borrow.Author.Tests.{le-ltb}
+use lib.Dec.{T, eqb, ltb, eqb→eq}
 use lib.ListN.{length, getD, length-append, length-map}
 use Rattle.rules.specs.Base.{if_then_else_, keep}
 use Rattle.rules.specs.Color.{RunnerConfig, ColorSum, one, _⊕_, pixel, keyingOn}
-use Rattle.rules.specs.State.{State, cluster, label, area, emptied, withCluster, mergedTo, deeper, withResidue, put, merge, deepen}
-use Rattle.rules.specs.Stage1.{taken}
+use Rattle.rules.specs.State.{State, Cluster, cluster, label, area, emptied, withCluster, mergedTo, deeper, withResidue, put, merge, deepen}
 use Rattle.rules.specs.Stage2.{visit, prepareStage2}
 use Rattle.rules.specs.Run.{stage1, stage2, run, dropEmpty}
 use Rattle.rules.specs.Layout.{after, firstOf, link}
@@ -23,15 +23,15 @@ use Rattle.rules.specs.Order.{start, turns}
 use Rattle.rules.specs.Ranges.{Fits, OnImage, Below, Ranged}
 use Rattle.rules.specs.Demand3.{Discarded, Agrees}
 use Rattle.rules.proofs.Owned.{owned}
-use Rattle.rules.proofs.Facts.{is-false, standing, bit-T, eqb-yes, countOf-le, tally-or, tally-one, countOf-bound}
-use Rattle.rules.proofs.Basic.{Basic, Moved, three, plain-to, plain-up, merge-f, merge-t, merge-moved, deepen-f, deepen-t, deepen-moved}
+use Rattle.rules.proofs.Facts.{standing, bit-T, eqb-yes, countOf-le, tally-or, tally-one, countOf-bound}
+use Rattle.rules.proofs.Basic.{Basic, Moved, plain-to, plain-up, some-held, moved-every}
 use Rattle.rules.proofs.Sound.{Sound}
-use Rattle.rules.proofs.Visits.{Going, Near, visit-cases, isolated-cases, stands, k≢t, k-slot, t-slot, target-stands, merge-going}
-use Rattle.rules.proofs.Early.{Early, settled}
-use Rattle.rules.proofs.Whole.{early, early-at}
+use Rattle.rules.proofs.Visits.{Going, Near, visit-cases, isolated-cases, stands, k≢t, t-slot, target-stands, merge-going, merge-changes, deepen-changes, merge-from, deepen-from, merge-to, deepen-to}
+use Rattle.rules.proofs.Early.{Early, settled, flats-apart}
+use Rattle.rules.proofs.Whole.{early}
 use Rattle.rules.proofs.Outputs.{area-le}
 use Rattle.rules.proofs.Pictures.{tally-count, tally-bytes}
-use Rattle.rules.proofs.Bounds.{Bounded, rooted, waiting, root-out, fewer-roots, stood}
+use Rattle.rules.proofs.Bounds.{Bounded, rooted, waiting, root-out, stood, merge-fewer, deepen-fewer}
 use Rattle.rules.proofs.Moments.{Between, moments-keep, stage2-keep, each-map}
 use Rattle.rules.proofs.Order.{turns-keep, start-turning}
 use Rattle.rules.proofs.Slots.{stage1-slots, both-rects, no-rect}
@@ -85,9 +85,6 @@ module _ (image : List ℕ) (bytes : (i : ℕ) → getD image i 0 ≤ 255) where
   pub sum-fits : {size : ℕ} {h : Held} {s : State} → Basic image size h s → (k : ℕ) → Fits size (cluster s k .sum)
   sum-fits {size} {h} {s} C k = subst (Fits size) (sym (C .sums k)) (tally-fits (h k) size)
 
-  pub taken-fits : (o : RunnerConfig) (w h n : ℕ) → n ≤ w * h → (k : ℕ) → Fits (w * h) (cluster (taken o w image (w * h) n) k .sum)
-  taken-fits o w h n l k = sum-fits (early-at o w h image n l .basic) k
-
   residue-fits : {size : ℕ} {h O : Held} {s : State} → Sound image size h O s → (k : ℕ) → Stands h k → Fits size (cluster s k .residue)
   residue-fits {size} {h} {O} {s} S k z = subst (Fits size) (sym (S .residues k z)) (tally-fits (O k) size)
 
@@ -115,85 +112,60 @@ module _ (image : List ℕ) (bytes : (i : ℕ) → getD image i 0 ≤ 255) where
       B = record { total = omega arith; table = I .table }
 
       module _ (t : ℕ) (N : Near s (label s (getD (cluster s k .pixels) 0 0)) t) where
-        d : k ≢ t
-        d = k≢t a k s G pos e t N
-
-        ks : k < length (s .clusters)
-        ks = k-slot a k s G pos e t N
-
-        ts : t < length (s .clusters)
-        ts = t-slot a k s G pos e t N
-
         merge-inner : Inner (merge k t s)
         unfolding merge withResidue withCluster emptied
         merge-inner = record {
           table = M .table ∙ I .table;
-          rects = three k t (λ j. OnImage w h (cluster u j .rect)) (subst (λ c. OnImage w h (c .rect)) (sym from) (no-rect w h))
-              (subst (λ c. OnImage w h (c .rect)) (sym to) (both-rects w h (cluster s t .rect) (cluster s k .rect) (I .rects t) (I .rects k)))
-              (λ j m l. subst (λ c. OnImage w h (c .rect)) (sym (M .other j m l)) (I .rects j));
-          residues = three k t (λ j. Fits (w * h) (cluster u j .residue)) (subst (λ c. Fits (w * h) (c .residue)) (sym from) (I .residues k))
-              (residue-fits (merge-going a k s G pos e t N .sound) t (getD (cluster s k .pixels) 0 0, plain-to (ledger (s .log)) k t d (getD (cluster s k .pixels) 0 0) (stands a k s G pos e)))
-              (λ j m l. subst (λ c. Fits (w * h) (c .residue)) (sym (M .other j m l)) (I .residues j));
-          into = three k t (λ j. cluster u j .mergedInto < n) (subst (λ c. c .mergedInto < n) (sym from) (I .into k)) (subst (λ c. c .mergedInto < n) (sym to) (I .into t))
-              (λ j m l. subst (λ c. c .mergedInto < n) (sym (M .other j m l)) (I .into j));
-          depths = three k t (λ j. cluster u j .depth + countOf (rooted u) n ≤ w * h) (omega (arith, ap (λ c. c .depth) from, I .depths k, less)) (omega (arith, ap (λ c. c .depth) to, I .depths t, less))
-              (λ j m l. omega (arith, ap (λ c. c .depth) (M .other j m l), I .depths j, less));
-          holes = three k t (λ j. length (cluster u j .holes) ≤ cluster u j .depth) (subst (λ c. length (c .holes) ≤ c .depth) (sym from) (I .holes k)) (subst (λ c. length (c .holes) ≤ c .depth) (sym to) (I .holes t))
-              (λ j m l. subst (λ c. length (c .holes) ≤ c .depth) (sym (M .other j m l)) (I .holes j));
-          children = three k t (λ j. Below n (cluster u j .holes)) (subst (λ c. Below n (c .holes)) (sym from) (I .children k)) (subst (λ c. Below n (c .holes)) (sym to) (I .children t))
-              (λ j m l. subst (λ c. Below n (c .holes)) (sym (M .other j m l)) (I .children j));
+          rects = every (λ c. OnImage w h (c .rect)) (no-rect w h) (both-rects w h (cluster s t .rect) (cluster s k .rect) (I .rects t) (I .rects k)) (I .rects);
+          residues = every (λ c. Fits (w * h) (c .residue)) (I .residues k)
+              (subst (λ c. Fits (w * h) (c .residue)) (merge-to a k s G pos e t N)
+              (residue-fits (merge-going a k s G pos e t N .sound) t (first, plain-to (ledger (s .log)) k t (k≢t a k s G pos e t N) first (stands a k s G pos e))))
+              (I .residues);
+          into = every (λ c. c .mergedInto < n) (I .into k) (I .into t) (I .into);
+          depths = every (λ c. c .depth + countOf (rooted (merge k t s)) n ≤ w * h) (fewer k) (fewer t) fewer;
+          holes = every (λ c. length (c .holes) ≤ c .depth) (I .holes k) (I .holes t) (I .holes);
+          children = every (λ c. Below n (c .holes)) (I .children k) (I .children t) (I .children);
           outputs = I .outputs;
         }
           where
-            u : State
-            u = merge k t s
+            first : ℕ
+            first = getD (cluster s k .pixels) 0 0
 
             M : Moved k t s (merge k t s)
-            M = merge-moved k t s d ks ts
+            M = merge-changes a k s G pos e t N
 
-            from : cluster (merge k t s) k ≡ emptied (cluster s k)
-            from = merge-f k t s d ks ts
+            every : (P : Cluster → Type 0) → P (emptied (cluster s k)) → P (withResidue (cluster s t .residue ⊕ cluster s k .residue) (withCluster (cluster s k) (cluster s t)))
+                → ((j : ℕ) → P (cluster s j)) → (j : ℕ) → P (cluster (merge k t s) j)
+            every = moved-every M (merge-from a k s G pos e t N) (merge-to a k s G pos e t N)
 
-            to : cluster (merge k t s) t ≡ withResidue (cluster s t .residue ⊕ cluster s k .residue) (withCluster (cluster s k) (cluster s t))
-            to = merge-t k t s d ks ts
-
-            less : countOf (rooted (merge k t s)) n < countOf (rooted s) n
-            less = fewer-roots a k s G B pos e fits t N M (λ r. omega (arith, r .0, ap area from)) (M .table)
+            fewer : (j : ℕ) → cluster s j .depth + countOf (rooted (merge k t s)) n ≤ w * h
+            fewer j = omega (arith, I .depths j, merge-fewer a k s G B pos e fits t N .0)
 
         deepen-inner : (b : Bool) → Inner (deepen b k t s)
         unfolding deepen mergedTo withCluster deeper
         deepen-inner b = record {
           table = M .table ∙ I .table;
-          rects = three k t (λ j. OnImage w h (cluster u j .rect)) (subst (λ c. OnImage w h (c .rect)) (sym from) (I .rects k))
-              (subst (λ c. OnImage w h (c .rect)) (sym to) (both-rects w h (cluster s t .rect) (cluster s k .rect) (I .rects t) (I .rects k)))
-              (λ j m l. subst (λ c. OnImage w h (c .rect)) (sym (M .other j m l)) (I .rects j));
-          residues = three k t (λ j. Fits (w * h) (cluster u j .residue)) (subst (λ c. Fits (w * h) (c .residue)) (sym from) (I .residues k)) (subst (λ c. Fits (w * h) (c .residue)) (sym to) (I .residues t))
-              (λ j m l. subst (λ c. Fits (w * h) (c .residue)) (sym (M .other j m l)) (I .residues j));
-          into = three k t (λ j. cluster u j .mergedInto < n) (subst (λ c. c .mergedInto < n) (sym from) (subst (λ m. t < m) (I .table) ts)) (subst (λ c. c .mergedInto < n) (sym to) (I .into t))
-              (λ j m l. subst (λ c. c .mergedInto < n) (sym (M .other j m l)) (I .into j));
-          depths = three k t (λ j. cluster u j .depth + countOf (rooted u) n ≤ w * h) (omega (arith, ap (λ c. c .depth) from, I .depths k, less)) (omega (arith, ap (λ c. c .depth) to, I .depths t, less))
-              (λ j m l. omega (arith, ap (λ c. c .depth) (M .other j m l), I .depths j, less));
-          holes = three k t (λ j. length (cluster u j .holes) ≤ cluster u j .depth) (subst (λ c. length (c .holes) ≤ c .depth) (sym from) (I .holes k)) (subst (λ c. length (c .holes) ≤ c .depth) (sym to) (more b))
-              (λ j m l. subst (λ c. length (c .holes) ≤ c .depth) (sym (M .other j m l)) (I .holes j));
-          children = three k t (λ j. Below n (cluster u j .holes)) (subst (λ c. Below n (c .holes)) (sym from) (I .children k)) (subst (λ c. Below n (c .holes)) (sym to) (one b))
-              (λ j m l. subst (λ c. Below n (c .holes)) (sym (M .other j m l)) (I .children j));
+          rects = every (λ c. OnImage w h (c .rect)) (I .rects k) (both-rects w h (cluster s t .rect) (cluster s k .rect) (I .rects t) (I .rects k)) (I .rects);
+          residues = every (λ c. Fits (w * h) (c .residue)) (I .residues k) (I .residues t) (I .residues);
+          into = every (λ c. c .mergedInto < n) (subst (λ m. t < m) (I .table) (t-slot a k s G pos e t N)) (I .into t) (I .into);
+          depths = every (λ c. c .depth + countOf (rooted (deepen b k t s)) n ≤ w * h) (omega (arith, fewer k)) (omega (arith, I .depths t, less)) (λ j. omega (arith, fewer j));
+          holes = every (λ c. length (c .holes) ≤ c .depth) (I .holes k) (more b) (I .holes);
+          children = every (λ c. Below n (c .holes)) (I .children k) (one b) (I .children);
           outputs = below-snoc n k (s .outputs) (I .outputs) fits;
         }
           where
-            u : State
-            u = deepen b k t s
-
             M : Moved k t s (deepen b k t s)
-            M = deepen-moved k t s d ks ts b
+            M = deepen-changes a k s G pos e t N b
 
-            from : cluster (deepen b k t s) k ≡ mergedTo t (cluster s k)
-            from = deepen-f k t s d ks ts b
-
-            to : cluster (deepen b k t s) t ≡ deeper b k (withCluster (cluster s k) (cluster s t))
-            to = deepen-t k t s d ks ts b
+            every : (P : Cluster → Type 0) → P (mergedTo t (cluster s k)) → P (deeper b k (withCluster (cluster s k) (cluster s t)))
+                → ((j : ℕ) → P (cluster s j)) → (j : ℕ) → P (cluster (deepen b k t s) j)
+            every = moved-every M (deepen-from a k s G pos e t N b) (deepen-to a k s G pos e t N b)
 
             less : countOf (rooted (deepen b k t s)) n < countOf (rooted s) n
-            less = fewer-roots a k s G B pos e fits t N M (λ r. N .0 (sym (ap (λ c. c .mergedInto) from) ∙ r .1)) (M .table)
+            less = deepen-fewer a k s G B pos e fits t N b .0
+
+            fewer : (j : ℕ) → cluster s j .depth + countOf (rooted (deepen b k t s)) n ≤ w * h
+            fewer j = omega (arith, I .depths j, less)
 
             more : (y : Bool) → length (if y then cluster s t .holes ++ (k ∷ []) else cluster s t .holes) ≤ cluster s t .depth + 1
             more true = omega (arith, length-append (cluster s t .holes) (k ∷ []), I .holes t)
@@ -213,7 +185,7 @@ module _ (image : List ℕ) (bytes : (i : ℕ) → getD image i 0 ≤ 255) where
     unfolding link
     ranged s S pos few I = record {
       slots = omega (arith, I .table);
-      labels = λ p. named p (ℕ-discrete (label s p) 0);
+      labels = λ p. elim (ℕ-discrete (label s p) 0) [ yes z ↦ omega (arith, I .table) | no z ↦ C .slots (label s p) p (C .shown p z) ];
       links = λ p. after-le (w * h) p (cluster s (label s p) .pixels) (pixels (label s p));
       firsts = λ k. begins-le (w * h) (cluster s k .pixels) (pixels k);
       areas = area-le C;
@@ -236,11 +208,7 @@ module _ (image : List ℕ) (bytes : (i : ℕ) → getD image i 0 ≤ 255) where
         kids k = subst (λ m. Below m (cluster s k .holes)) (sym (I .table)) (I .children k)
 
         pixels : (k : ℕ) → Below (w * h) (cluster s k .pixels)
-        pixels k = occurs-below (w * h) (cluster s k .pixels) (λ p z. subst (λ m. p < m) (C .width) (C .places k p (bit-T (ledger (s .log) k p) (λ y. z (C .lists k p ∙ y)))))
-
-        named : (p : ℕ) → Dec (label s p ≡ 0) → label s p < length (s .clusters)
-        named p (yes z) = omega (arith, I .table)
-        named p (no z) = C .slots (label s p) p (C .shown p z)
+        pixels k = occurs-below (w * h) (cluster s k .pixels) (λ p z. subst (λ m. p < m) (C .width) (C .places k p (some-held C k p z)))
 
   module _ (o : RunnerConfig) (w h : ℕ) where
     start-inner : Inner w h (length (stage1 o w h image .clusters)) (prepareStage2 (stage1 o w h image))
@@ -327,10 +295,7 @@ pub never-seven : (size : ℕ) (x y : ColorSum) → size ≤ 1048576 → Fits si
 unfolding sumAnswer _⊕_
 never-seven size x y l F =
     let t = fits-total size (x ⊕ y) l F in
-    rw (not-above (x .r + y .r) (t .0), not-above (x .g + y .g) (t .1), not-above (x .b + y .b) (t .2), not-above (x .a + y .a) (t .3), not-above (x .count + y .count) (t .4))
-  where
-    not-above : (z : ℕ) → z ≤ largestTotal → ltb largestTotal z ≡ false
-    not-above z l = is-false (ltb largestTotal z) (λ t. omega (arith, ltb→lt largestTotal z t))
+    rw (le-ltb _ (x .r + y .r) (t .0), le-ltb _ (x .g + y .g) (t .1), le-ltb _ (x .b + y .b) (t .2), le-ltb _ (x .a + y .a) (t .3), le-ltb _ (x .count + y .count) (t .4))
 
 -- No addition of a run meets refusal 7: not that of a pixel or the merge of two clusters in stage 1 (Early holds after every pixel: `early-at`), not the merge of
 -- two sums in stage 2, nor of two residues (Going holds before every visit).
@@ -350,12 +315,9 @@ module _ (image : List ℕ) (bytes : (i : ℕ) → getD image i 0 ≤ 255) {size
     pub combine-never-seven : (f t : ℕ) → f ≢ t → sumAnswer (cluster s t .sum) (cluster s f .sum) ≡ 0
     combine-never-seven f t n = never-seven size (cluster s t .sum) (cluster s f .sum) few (subst (Fits size) total (tally-fits image bytes (λ q. ledger (s .log) t q || ledger (s .log) f q) size))
       where
-        apart : (p : ℕ) → T (ledger (s .log) t p) → T (ledger (s .log) f p) → ⊥
-        apart p a b = n (sym (E .flats f p b) ∙ E .flats t p a)
-
         total : tally image (λ q. ledger (s .log) t q || ledger (s .log) f q) size ≡ cluster s t .sum ⊕ cluster s f .sum
         total =
-            tally-or image (ledger (s .log) t) (ledger (s .log) f) apart size ∙ ap (λ x. x ⊕ tally image (ledger (s .log) f) size) (sym (E .basic .sums t))
+            tally-or image (ledger (s .log) t) (ledger (s .log) f) (flats-apart E f t n) size ∙ ap (λ x. x ⊕ tally image (ledger (s .log) f) size) (sym (E .basic .sums t))
             ∙ ap (λ y. cluster s t .sum ⊕ y) (sym (E .basic .sums f))
 
   pub merge-never-seven : (a k : ℕ) (s : State) → Going image size a k s → 0 < a → area (cluster s k) ≡ a → (t : ℕ) → Near s (label s (getD (cluster s k .pixels) 0 0)) t
@@ -363,11 +325,9 @@ module _ (image : List ℕ) (bytes : (i : ℕ) → getD image i 0 ≤ 255) {size
   unfolding merge withResidue
   merge-never-seven a k s G pos e t N =
       let S = merge-going a k s G pos e t N .sound in
-      let t-is = merge-t k t s (k≢t a k s G pos e t N) (k-slot a k s G pos e t N) (t-slot a k s G pos e t N) in
-      let M = merge-moved k t s (k≢t a k s G pos e t N) (k-slot a k s G pos e t N) (t-slot a k s G pos e t N) in
       let z = target-stands a k s G pos e t N in (
-        never-seven size (cluster s t .sum) (cluster s k .sum) few (subst (Fits size) (M .t-sum) (sum-fits image bytes (S .basic) t)),
-        never-seven size (cluster s t .residue) (cluster s k .residue) few (subst (Fits size) (ap (λ c. c .residue) t-is) (residue-fits image bytes S t (stood z))),
+        never-seven size (cluster s t .sum) (cluster s k .sum) few (subst (Fits size) (merge-changes a k s G pos e t N .t-sum) (sum-fits image bytes (S .basic) t)),
+        never-seven size (cluster s t .residue) (cluster s k .residue) few (subst (Fits size) (ap (λ c. c .residue) (merge-to a k s G pos e t N)) (residue-fits image bytes S t (stood z))),
       )
     where
       stood : Stands (ledger (s .log)) t → Stands (ledger (merge k t s .log)) t

@@ -2,17 +2,18 @@
 use mathlib.Core.Path.{_≡_, refl, sym, ap, _∙_, subst}
 use mathlib.Core.Bool.{Bool, true, false}
 use mathlib.Core.List.{List, [], _∷_, _++_, append-assoc, append-nil}
-use Prim.Native.Nat.{ℕ, zero, suc, _+_, _≤_, _<_}
+use Prim.Native.Nat.{ℕ, zero, suc, _≤_, _<_}
 use native.Mathlib.Decide.{ℕ-discrete}
 use native.Mathlib.Omega.{arith}
-use lib.Dec.{T, eqb, ltb, leb, lt→ltb, ltb→lt, le→leb, leb→le}
+use borrow.Author.Tests.{eqb-true, ltb-true}
+use lib.Dec.{T, eqb, ltb, leb, lt→ltb, le→leb, leb→le}
 use lib.ListN.{length}
 use Rattle.rules.specs.Base.{if_then_else_, times, upTo, keep, insertBy, sortBy}
 use Rattle.rules.specs.Color.{RunnerConfig}
 use Rattle.rules.specs.State.{State, cluster, area, put}
 use Rattle.rules.specs.Stage2.{outputAll, neighbours, decide, visit, pass, passes}
 use Rattle.rules.proofs.Facts.{is-true, is-false, eqb-yes, eqb-no}
-use Rattle.rules.proofs.Visits.{All, eqb-is}
+use Rattle.rules.proofs.Visits.{All}
 
 pub keep-append : (f : ℕ → Bool) (xs ys : List ℕ) → keep f (xs ++ ys) ≡ keep f xs ++ keep f ys
 keep-append f [] ys = refl
@@ -52,7 +53,7 @@ module _ (key : ℕ → ℕ) where
   bucket-all xs (suc m) =
       all-append (λ x. key x ≤ suc m) (buckets key xs m) (keep (λ x. eqb (key x) (suc m)) xs)
       (all-map (λ x. key x ≤ m) (λ x. key x ≤ suc m) (λ x l. omega arith) (buckets key xs m) (bucket-all xs m))
-      (keep-all (λ x. key x ≤ suc m) (λ x. eqb (key x) (suc m)) (λ x e. omega (arith, eqb-is (key x) (suc m) e)) xs)
+      (keep-all (λ x. key x ≤ suc m) (λ x. eqb (key x) (suc m)) (λ x e. omega (arith, eqb-true (key x) (suc m) e)) xs)
 
   -- an entry goes behind smaller keys
   insert-behind : (a : ℕ) (xs ys : List ℕ) → All (λ x. key x < key a) xs → insertBy key a (xs ++ ys) ≡ xs ++ insertBy key a ys
@@ -86,7 +87,7 @@ module _ (key : ℕ → ℕ) where
       K = keep (λ y. eqb (key y) (suc m)) xs
 
       mine : All (λ y. key y ≡ suc m) (keep (λ y. eqb (key y) (suc m)) xs)
-      mine = keep-all (λ y. key y ≡ suc m) (λ y. eqb (key y) (suc m)) (λ y e. eqb-is (key y) (suc m) e) xs
+      mine = keep-all (λ y. key y ≡ suc m) (λ y. eqb (key y) (suc m)) (λ y e. eqb-true (key y) (suc m) e) xs
 
       go : Dec (key x ≡ suc m) → (key x ≤ m → insertBy key x (buckets key xs m) ≡ buckets key (x ∷ xs) m) → insertBy key x (buckets key xs m ++ keep (λ y. eqb (key y) (suc m)) xs) ≡ buckets key (x ∷ xs) m ++ (if eqb (key x) (suc m) then x ∷ keep (λ y. eqb (key y) (suc m)) xs else keep (λ y. eqb (key y) (suc m)) xs)
       go (yes e) ih =
@@ -111,7 +112,7 @@ module _ (key : ℕ → ℕ) where
     where
       pick : (b : Bool) → ltb 0 (key x) ≡ b → sortBy key (keep (λ y. ltb 0 (key y)) xs) ≡ buckets key xs m
           → sortBy key (if b then x ∷ keep (λ y. ltb 0 (key y)) xs else keep (λ y. ltb 0 (key y)) xs) ≡ buckets key (x ∷ xs) m
-      pick true e ih = ap (insertBy key x) ih ∙ buckets-insert x xs m (ltb→lt 0 (key x) (subst T (sym e) tt)) (le x)
+      pick true e ih = ap (insertBy key x) ih ∙ buckets-insert x xs m (ltb-true 0 (key x) e) (le x)
       pick false e ih = ih ∙ sym (buckets-other x xs m (λ l z. subst T (sym (is-true (ltb 0 (key x)) (lt→ltb 0 (key x) z)) ∙ e) tt))
 
 -- ---- the passes

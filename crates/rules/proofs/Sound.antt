@@ -1,6 +1,6 @@
 -- What holds of a state throughout stage 2, and that a merge keeps it.
 use mathlib.Core.Path.{_≡_, refl, sym, ap, ap₂, _∙_, subst}
-use mathlib.Core.Logic.{_≢_, _⊎_, inl, inr}
+use mathlib.Core.Logic.{_≢_, _⊎_, inl, inr, by-cases}
 use mathlib.Core.Bool.{Bool}
 use mathlib.Core.List.{List}
 use Prim.Native.Nat.{ℕ, _<_}
@@ -43,17 +43,15 @@ module _ {image : List ℕ} {size : ℕ} {h O : Held} {s : State} (S : Sound ima
 
   module _ {s′ : State} (M : Moved f t s s′) where
     from : (q : ℕ) → T (h f q) → label s′ q ≡ t
-    from = lab-from (S .basic) f t n apart t-slot M
+    from = lab-from (S .basic) f t M
 
     other : (q : ℕ) → (T (h f q) → ⊥) → label s′ q ≡ label s q
-    other = lab-other (S .basic) f t n apart t-slot M
+    other = lab-other (S .basic) f t M
 
     roots : (k : ℕ) → k ≢ f → cluster s′ k .mergedInto ≡ cluster s k .mergedInto
-    roots k d = pick (ℕ-discrete k t)
-      where
-        pick : Dec (k ≡ t) → cluster s′ k .mergedInto ≡ cluster s k .mergedInto
-        pick (yes e) = subst (λ m. cluster s′ m .mergedInto ≡ cluster s m .mergedInto) (sym e) (M .t-merged)
-        pick (no e) = ap (λ c. c .mergedInto) (M .other k d e)
+    roots k d = by-cases (ℕ-discrete k t)
+        (λ e. subst (λ m. cluster s′ m .mergedInto ≡ cluster s m .mergedInto) (sym e) (M .t-merged))
+        (λ e. ap (λ c. c .mergedInto) (M .other k d e))
 
     -- h′: the ledger after the merge
     module _ (h′ : Held) (down : (j q : ℕ) → T (h′ j q) → ((j ≡ t) × T (h f q)) ⊎ T (h j q)) where
@@ -89,19 +87,11 @@ module _ {image : List ℕ} {size : ℕ} {h O : Held} {s : State} (S : Sound ima
     down = plain-down h f t n;
     up = plain-up h f t n;
     to = plain-to h f t n;
-    own-down = λ j q x. (plain-down O f t n j q x .0, turn j q (plain-down O f t n j q x .1));
-    own-any = λ j q x. any j q x (ℕ-discrete j f);
+    own-down = λ j q x. (plain-down O f t n j q x .0, elim (plain-down O f t n j q x .1) [ inl x ↦ inr (x .0, x .1, λ c. c refl) | inr x ↦ inl x ]);
+    own-any = λ j q x. elim (ℕ-discrete j f) [ yes e ↦ (t, plain-to O f t n q (subst (λ m. T (O m q)) e x)) | no d ↦ (j, plain-up O f t n j q d x) ];
     lab-from = from (merge-moved f t s n f-slot t-slot);
     lab-other = other (merge-moved f t s n f-slot t-slot);
   }
-    where
-      turn : (j q : ℕ) → ((j ≡ t) × T (O f q)) ⊎ T (O j q) → T (O j q) ⊎ ((j ≡ t) × T (O f q) × ((f ≢ f) → ⊥))
-      turn j q (inl x) = inr (x .0, x .1, λ c. c refl)
-      turn j q (inr x) = inl x
-
-      any : (j q : ℕ) → T (O j q) → Dec (j ≡ f) → (k : ℕ) × T (enter (plain f t) O k q)
-      any j q x (yes e) = (t, plain-to O f t n q (subst (λ m. T (O m q)) e x))
-      any j q x (no d) = (j, plain-up O f t n j q d x)
 
   pub plain-sound : Sound image size (enter (plain f t) h) (enter (plain f t) O) (merge f t s)
   unfolding emptied withCluster withResidue

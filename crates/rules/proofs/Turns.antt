@@ -1,9 +1,9 @@
 -- What code may use when it takes its turn: all of it before turn m of a run, where slot k is picked.
 use mathlib.Core.Path.{_≡_, refl, ap, _∙_, subst}
+use mathlib.Core.Logic.{by-cases}
 use mathlib.Core.Bool.{not, _&&_, _||_}
 use mathlib.Core.List.{List, [], _∷_}
-use mathlib.Core.Option.{Option, some}
-use mathlib.Core.Option.{none as off}
+use mathlib.Core.Option.{Option, some, none as off}
 use Prim.Native.Nat.{ℕ, zero, suc, _*_, _≤_, _<_}
 use native.Mathlib.Decide.{ℕ-discrete, decLt}
 use native.Mathlib.Omega.{arith}
@@ -98,16 +98,16 @@ turn-grows o w h q = go (pick (q .keys))
 turns-grow : (o : RunnerConfig) (w h : ℕ) (q : Queue) (m n : ℕ) → m ≤ n → length (turns o w h m q .now .outputs) ≤ length (turns o w h n q .now .outputs)
 unfolding turns
 turns-grow o w h q m zero l = subst (λ x. length (turns o w h m q .now .outputs) ≤ length (turns o w h x q .now .outputs)) (let z : m ≡ 0 = omega arith in z) (omega arith)
-turns-grow o w h q m (suc n) l = go (ℕ-discrete m (suc n)) (turns-grow o w h q m n)
-  where
-    go : Dec (m ≡ suc n) → (m ≤ n → length (turns o w h m q .now .outputs) ≤ length (turns o w h n q .now .outputs)) → length (turns o w h m q .now .outputs) ≤ length (turns o w h (suc n) q .now .outputs)
-    go (yes e) ih = subst (λ x. length (turns o w h m q .now .outputs) ≤ length (turns o w h x q .now .outputs)) e (omega arith)
-    go (no d) ih = omega (arith, ih (omega arith), turn-grows o w h (turns o w h n q))
+turns-grow o w h q m (suc n) l = by-cases (ℕ-discrete m (suc n))
+    (λ e. subst (λ x. length (turns o w h m q .now .outputs) ≤ length (turns o w h x q .now .outputs)) e (omega arith))
+    (λ d. omega (arith, turns-grow o w h q m n (omega arith), turn-grows o w h (turns o w h n q)))
 
 -- before and after every turn there are at most 2 × w × h entries
 pub turns-outputs : (o : RunnerConfig) (w h : ℕ) (image : List ℕ) (m : ℕ) → length (turns o w h m (start (prepareStage2 (stage1 o w h image))) .now .outputs) ≤ 2 * (w * h)
 unfolding drained
-turns-outputs o w h image m = go (decLt (2 * (w * h)) m)
+turns-outputs o w h image m = by-cases (decLt (2 * (w * h)) m)
+    (λ l. omega (arith, ap (λ u. length (u .now .outputs)) (turns-idle o w h q (2 * (w * h)) (idle (pick (turns o w h (2 * (w * h)) q .keys)) refl) m (omega arith)), all))
+    (λ l. omega (arith, turns-grow o w h q m (2 * (w * h)) (omega arith), all))
   where
     q : Queue
     q = start (prepareStage2 (stage1 o w h image))
@@ -118,10 +118,6 @@ turns-outputs o w h image m = go (decLt (2 * (w * h)) m)
     idle : (b : Option ℕ) → pick (turns o w h (2 * (w * h)) q .keys) ≡ b → pick (turns o w h (2 * (w * h)) q .keys) ≡ off
     idle off e = e
     idle (some k) e = absurd (let z : 2 * (w * h) < 2 * (w * h) = turns-few o w h image (2 * (w * h)) k e in omega arith)
-
-    go : Dec (2 * (w * h) < m) → length (turns o w h m q .now .outputs) ≤ 2 * (w * h)
-    go (yes l) = omega (arith, ap (λ u. length (u .now .outputs)) (turns-idle o w h q (2 * (w * h)) (idle (pick (turns o w h (2 * (w * h)) q .keys)) refl) m (omega arith)), all)
-    go (no l) = omega (arith, turns-grow o w h q m (2 * (w * h)) (omega arith), all)
 
 -- stage 2 adds no slot: before and after every turn there are those of stage 1
 pub turns-table : (o : RunnerConfig) (w h : ℕ) (image : List ℕ) (m : ℕ) → length (turns o w h m (start (prepareStage2 (stage1 o w h image))) .now .clusters) ≡ length (stage1 o w h image .clusters)

@@ -1,37 +1,31 @@
 -- Stage 2 keeps what holds: each visit, each pass, all of them.
 use mathlib.Core.Path.{_≡_, refl, sym, ap, _∙_, subst}
-use mathlib.Core.Logic.{_≢_, _⊎_, inl, inr}
-use mathlib.Core.Bool.{Bool, true, false, not, _||_, true≢false}
+use mathlib.Core.Logic.{_≢_, _⊎_, inl, inr, by-cases}
+use mathlib.Core.Bool.{Bool, true, false, _||_}
 use mathlib.Core.List.{List, [], _∷_}
-use mathlib.Core.Option.{Option, some}
-use mathlib.Core.Option.{none as off}
+use mathlib.Core.Option.{Option, some, none as off}
 use Prim.Native.Nat.{ℕ, zero, suc, _≤_, _<_}
 use native.Mathlib.Decide.{ℕ-discrete}
 use native.Mathlib.Omega.{arith}
-use lib.Dec.{T, eqb, ltb, leb, eqb→eq, ltb→lt, nltb→le}
+use borrow.Author.Tests.{eqb-false, eqb-true, ltb-false, ltb-true}
+use lib.Dec.{T, eqb, ltb, leb}
 use lib.ListN.{length, getD}
 use Rattle.rules.specs.Base.{if_then_else_, noneAbove, times, insert, least}
-use Rattle.rules.specs.Color.{RunnerConfig, discards}
+use Rattle.rules.specs.Color.{RunnerConfig, _⊕_, discards}
 use Rattle.rules.specs.Grid.{sides}
-use Rattle.rules.specs.State.{State, cluster, label, area, emptied, mergedTo, put, merge, deepen}
+use Rattle.rules.specs.State.{State, cluster, label, area, emptied, withCluster, withResidue, mergedTo, deeper, put, merge, deepen}
 use Rattle.rules.specs.Stage2.{labelsAt, labelsAround, neighbours, rank, deepens, isolated, mergeInto, decide, visit, pass, passes}
 use Rattle.rules.specs.Ledger.{Held, ledger}
 use Rattle.rules.specs.Claim.{bit, occurs, Stands}
 use Rattle.rules.proofs.Owned.{owned}
-use Rattle.rules.proofs.Facts.{eqb-yes, bit-T}
-use Rattle.rules.proofs.Basic.{Moved, three, merge-f, merge-moved, deepen-f, deepen-moved}
+use Rattle.rules.proofs.Facts.{eqb-yes, bit-T, eqb-no}
+use Rattle.rules.proofs.Basic.{Moved, three, merge-f, merge-t, merge-moved, deepen-f, deepen-t, deepen-moved}
 use Rattle.rules.proofs.Sound.{Sound, plain-sound, deepened-sound}
 
 -- what each of n steps keeps, n steps keep
 pub times-keep {ℓ κ} : {S : Type ℓ} (I : ℕ → S → Type κ) (f : ℕ → S → S) → ((i : ℕ) (s : S) → I i s → I (suc i) (f i s)) → (s : S) → I 0 s → (n : ℕ) → I n (times n f s)
 times-keep I f step s z zero = z
 times-keep I f step s z (suc n) = step n (times n f s) (times-keep I f step s z n)
-
-pub eqb-ne : (m n : ℕ) → eqb m n ≡ false → m ≢ n
-eqb-ne m n e x = true≢false (sym (eqb-yes m n x) ∙ e)
-
-pub eqb-is : (m n : ℕ) → eqb m n ≡ true → m ≡ n
-eqb-is m n e = eqb→eq m n (subst T (sym e) tt)
 
 -- ---- every entry of a list
 
@@ -74,7 +68,7 @@ module _ (o : RunnerConfig) (w h : ℕ) where
       pick : (b : Bool) → eqb (label s i) 0 ≡ b → (c : Bool) → eqb (label s i) own ≡ c → All (Near s own) (if b || c then found else insert (label s i) found)
       pick true e c d = a
       pick false e true d = a
-      pick false e false d = insert-all (Near s own) (label s i) found (eqb-ne (label s i) 0 e, eqb-ne (label s i) own d, (i, refl)) a
+      pick false e false d = insert-all (Near s own) (label s i) found (eqb-false (label s i) 0 e, eqb-false (label s i) own d, (i, refl)) a
 
   around4-near : (s : State) (own : ℕ) (ps found : List ℕ) → All (Near s own) found → All (Near s own) (labelsAround w h (s .labels) own ps found)
   unfolding labelsAround
@@ -109,9 +103,9 @@ visit-cases-why o w h a k s P idle out lone plainly deeply = pick (eqb (area (cl
         goes e l (least (rank s k) x xs) (least-all (Near s own) (rank s k) x xs (N .0) (N .1)) (leb (length (x ∷ xs)) (o .hollowNeighbours)) (deepens o w h s k (least (rank s k) x xs)) refl
 
     pick : (b : Bool) → eqb (area (cluster s k)) a ≡ b → (c : Bool) → ltb (o .hierarchical) a ≡ c → P (if b then (if c then put k s else decide o w h a k (neighbours w h s k) s) else s)
-    pick true e true z = out (eqb-is (area (cluster s k)) a e) (ltb→lt (o .hierarchical) a (subst T (sym z) tt))
-    pick true e false z = some-of (eqb-is (area (cluster s k)) a e) (nltb→le (o .hierarchical) a (subst (λ b. T (not b)) (sym z) tt)) (neighbours w h s k) refl (neighbours-near o w h s k)
-    pick false e c z = idle (eqb-ne (area (cluster s k)) a e)
+    pick true e true z = out (eqb-true (area (cluster s k)) a e) (ltb-true (o .hierarchical) a z)
+    pick true e false z = some-of (eqb-true (area (cluster s k)) a e) (ltb-false (o .hierarchical) a z) (neighbours w h s k) refl (neighbours-near o w h s k)
+    pick false e c z = idle (eqb-false (area (cluster s k)) a e)
 
 -- what a visit can do: nothing; put out (area above hierarchical); what a cluster with no neighbour does; merge, plainly or deepening
 pub visit-cases {ℓ} : (o : RunnerConfig) (w h a k : ℕ) (s : State) (P : State → Type ℓ)
@@ -126,11 +120,7 @@ visit-cases o w h a k s P idle out lone plainly deeply = visit-cases-why o w h a
 -- and what a cluster with no neighbour does: put out, or nothing
 pub isolated-cases {ℓ} : (o : RunnerConfig) (w h a k : ℕ) (s : State) (P : State → Type ℓ) → P (put k s) → P s → P (isolated o a k s)
 unfolding isolated
-isolated-cases o w h a k s P x y = pick (noneAbove a (s .listed) || discards o)
-  where
-    pick : (b : Bool) → P (if b then put k s else s)
-    pick true = x
-    pick false = y
+isolated-cases o w h a k s P x y = elim (noneAbove a (s .listed) || discards o) as (λ b. P (if b then put k s else s)) [ true ↦ x | false ↦ y ]
 
 occurs-first : (xs : List ℕ) → 0 < length xs → occurs (getD xs 0 0) xs ≢ 0
 occurs-first [] z e = absurd (omega arith)
@@ -145,11 +135,7 @@ pub record Going (image : List ℕ) (size : ℕ) (a k : ℕ) (s : State) : Type 
 
 module _ {image : List ℕ} {size : ℕ} where
   pub later : {a k : ℕ} {s : State} → Going image size a k s → Going image size a (suc k) s
-  later {a} {k} {s} G = record { sound = G .sound; past = λ j x. pick j (G .past j x) }
-    where
-      pick : (j : ℕ) → (area (cluster s j) < a) ⊎ ((area (cluster s j) ≡ a) × (j < k)) → (area (cluster s j) < a) ⊎ ((area (cluster s j) ≡ a) × (j < suc k))
-      pick j (inl x) = inl x
-      pick j (inr x) = inr (x .0, omega arith)
+  later {a} {k} {s} G = record { sound = G .sound; past = λ j x. elim (G .past j x) [ inl x ↦ inl x | inr x ↦ inr (x .0, omega arith) ] }
 
   put-sound : {h O : Held} {s : State} (k : ℕ) → Sound image size h O s → Sound image size h O (put k s)
   unfolding put
@@ -174,15 +160,7 @@ module _ {image : List ℕ} {size : ℕ} where
     stands = bit-T (ledger (s .log) k first) (λ z. occurs-first (cluster s k .pixels) (omega arith) (G .sound .basic .lists k first ∙ z))
 
     pub root : cluster s k .mergedInto ≡ 0
-    root = pick (ℕ-discrete (cluster s k .mergedInto) 0)
-      where
-        never : (area (cluster s k) < a) ⊎ ((area (cluster s k) ≡ a) × (k < k)) → ⊥
-        never (inl x) = omega arith
-        never (inr x) = omega arith
-
-        pick : Dec (cluster s k .mergedInto ≡ 0) → cluster s k .mergedInto ≡ 0
-        pick (yes z) = z
-        pick (no z) = absurd (never (G .past k z))
+    root = elim (ℕ-discrete (cluster s k .mergedInto) 0) [ yes z ↦ z | no z ↦ absurd (elim (G .past k z) [ inl x ↦ omega arith | inr x ↦ omega arith ]) ]
 
     pub mine : label s first ≡ k
     mine = G .sound .tops k first stands root
@@ -204,6 +182,26 @@ module _ {image : List ℕ} {size : ℕ} where
       pub t-slot : t < length (s .clusters)
       t-slot = G .sound .basic .slots t (target-stands .0) (target-stands .1)
 
+      -- what a plain merge changes, and what becomes of k and t
+      pub merge-changes : Moved k t s (merge k t s)
+      merge-changes = merge-moved k t s k≢t k-slot t-slot
+
+      pub merge-from : cluster (merge k t s) k ≡ emptied (cluster s k)
+      merge-from = merge-f k t s k≢t k-slot t-slot
+
+      pub merge-to : cluster (merge k t s) t ≡ withResidue (cluster s t .residue ⊕ cluster s k .residue) (withCluster (cluster s k) (cluster s t))
+      merge-to = merge-t k t s k≢t k-slot t-slot
+
+      -- and a deepening one
+      pub deepen-changes : (hollow : Bool) → Moved k t s (deepen hollow k t s)
+      deepen-changes = deepen-moved k t s k≢t k-slot t-slot
+
+      pub deepen-from : (hollow : Bool) → cluster (deepen hollow k t s) k ≡ mergedTo t (cluster s k)
+      deepen-from = deepen-f k t s k≢t k-slot t-slot
+
+      pub deepen-to : (hollow : Bool) → cluster (deepen hollow k t s) t ≡ deeper hollow k (withCluster (cluster s k) (cluster s t))
+      deepen-to = deepen-t k t s k≢t k-slot t-slot
+
       kept : {s′ : State} → Moved k t s s′ → (cluster s′ k .mergedInto ≢ 0 → (area (cluster s′ k) < a) ⊎ ((area (cluster s′ k) ≡ a) × (k < suc k)))
           → (j : ℕ) → cluster s′ j .mergedInto ≢ 0 → (area (cluster s′ j) < a) ⊎ ((area (cluster s′ j) ≡ a) × (j < suc k))
       kept {s′} M x =
@@ -215,14 +213,14 @@ module _ {image : List ℕ} {size : ℕ} where
       unfolding merge emptied
       merge-going = record {
         sound = plain-sound (G .sound) k t k≢t root target-root (first, stands) target-stands;
-        past = kept (merge-moved k t s k≢t k-slot t-slot) (λ z. absurd (z (ap (λ c. c .mergedInto) (merge-f k t s k≢t k-slot t-slot) ∙ root)));
+        past = kept merge-changes (λ z. absurd (z (ap (λ c. c .mergedInto) merge-from ∙ root)));
       }
 
       pub deepen-going : (hollow : Bool) → Going image size a (suc k) (deepen hollow k t s)
       unfolding deepen mergedTo
       deepen-going hollow = record {
         sound = deepened-sound (G .sound) k t k≢t root target-root (first, stands) target-stands hollow (N .0);
-        past = kept (deepen-moved k t s k≢t k-slot t-slot hollow) (λ z. inr (ap area (deepen-f k t s k≢t k-slot t-slot hollow) ∙ e, omega arith));
+        past = kept (deepen-changes hollow) (λ z. inr (ap area (deepen-from hollow) ∙ e, omega arith));
       }
 
   pub visit-going : (o : RunnerConfig) (w h a k : ℕ) (s : State) → Going image size a k s → 0 < a → Going image size a (suc k) (visit o w h a k s)
@@ -231,16 +229,31 @@ module _ {image : List ℕ} {size : ℕ} where
       (λ e l z. isolated-cases o w h a k s (Going image size a (suc k)) (put-going k (later G)) (later G))
       (λ e l t N. merge-going a k s G pos e t N) (λ e l t N b. deepen-going a k s G pos e t N b)
 
+  -- after the last slot at area a comes the first at the next area
+  pub next-area : {a n : ℕ} {s : State} → Going image size a n s → Going image size (suc a) 0 s
+  next-area G = record { sound = G .sound; past = λ j x. inl (elim (G .past j x) [ inl y ↦ omega arith | inr y ↦ omega arith ]) }
+
   pub pass-going : (o : RunnerConfig) (w h a : ℕ) (s : State) → Going image size (suc a) 0 s → Going image size (suc (suc a)) 0 (pass o w h (suc a) s)
   unfolding pass
-  pass-going o w h a s G = record { sound = end .sound; past = λ j x. pick j (end .past j x) }
-    where
-      end : Going image size (suc a) (length (s .clusters)) (times (length (s .clusters)) (visit o w h (suc a)) s)
-      end = times-keep (λ k u. Going image size (suc a) k u) (visit o w h (suc a)) (λ k u H. visit-going o w h (suc a) k u H (omega arith)) s G (length (s .clusters))
+  pass-going o w h a s G =
+      next-area (times-keep (λ k u. Going image size (suc a) k u) (visit o w h (suc a)) (λ k u H. visit-going o w h (suc a) k u H (omega arith)) s G (length (s .clusters)))
 
-      pick : (j : ℕ) {x : ℕ} → (x < suc a) ⊎ ((x ≡ suc a) × (j < length (s .clusters))) → (x < suc (suc a)) ⊎ ((x ≡ suc (suc a)) × (j < 0))
-      pick j (inl y) = inl (omega arith)
-      pick j (inr y) = inl (omega arith)
+  module _ (o : RunnerConfig) (w h : ℕ) (P : State → Type 0) (step : (a k : ℕ) (s : State) → Going image size a k s → 0 < a → area (cluster s k) ≡ a → P s → P (visit o w h a k s)) where
+    -- what every visit keeps holds after each slot of a pass
+    pub slots-keep : (a : ℕ) → 0 < a → (s : State) → Going image size a 0 s × P s → (n : ℕ) → Going image size a n (times n (visit o w h a) s) × P (times n (visit o w h a) s)
+    unfolding visit
+    slots-keep a pos = times-keep (λ k u. Going image size a k u × P u) (visit o w h a) (λ k u R. (
+      visit-going o w h a k u (R .0) pos,
+      by-cases (ℕ-discrete (area (cluster u k)) a)
+          (λ e. step a k u (R .0) pos e (R .1))
+          (λ d. rw (eqb-no (area (cluster u k)) a d) (R .1)),
+    ))
+
+    -- and after each pass
+    pub passes-keep : (s : State) → Going image size 1 0 s × P s → (m : ℕ) → Going image size (suc m) 0 (passes o w h m s) × P (passes o w h m s)
+    unfolding passes pass
+    passes-keep = times-keep (λ a u. Going image size (suc a) 0 u × P u) (λ a. pass o w h (suc a))
+        (λ a u R. let r = slots-keep (suc a) (omega arith) u R (length (u .clusters)) in (next-area (r .0), r .1))
 
   pub passes-going : (o : RunnerConfig) (w h : ℕ) (s : State) → Going image size 1 0 s → (n : ℕ) → Going image size (suc n) 0 (passes o w h n s)
   unfolding passes

@@ -1,6 +1,7 @@
 -- One turn of a loop that goes along the links and counts down.
 use mathlib.Core.Path.{_≡_, refl}
-use mathlib.Core.Bool.{Bool, true, false, _&&_, _||_}
+use mathlib.Core.Logic.{by-cases}
+use mathlib.Core.Bool.{true, false, _||_}
 use mathlib.Core.List.{List, [], _∷_}
 use Prim.Native.Nat.{ℕ, zero, suc, _-_, _≤_, _<_}
 use native.Mathlib.Decide.{decLt}
@@ -12,7 +13,7 @@ use lib.ListN.{getD}
 use Rattle.rules.specs.Base.{if_then_else_}
 use Rattle.rules.specs.Layout.{walk}
 use Rattle.rules.specs.Paint.{reads}
-use Rattle.rules.proofs.Facts.{is-true, is-false, eqb-no}
+use Rattle.rules.proofs.Facts.{is-true, is-false, eqb-no, T-both}
 
 -- the place that the chain goes on at, and the rest of the chain
 pub record Step (size : ℕ) (links : List ℕ) (at left : ℕ) : Type 0 where
@@ -26,17 +27,13 @@ unfolding walk
 step size links at zero l r = absurd (not-suc-le-zero l)
 step size links zero (suc n) l r = absurd r
 step size links (suc p) (suc n) l r =
-    let b = both (ltb p size) _ r in
+    let b = T-both (ltb p size) _ r in
     record {
       some = omega arith;
       within = omega (arith, ltb→lt p size (b .0));
       rest = rw (sub-one (suc n), sub-one (suc p)) (b .1);
       here = rw (sub-one (suc n), sub-one (suc p)) refl;
     }
-  where
-    both : (x y : Bool) → T (x && y) → T x × T y
-    both true y t = (tt, t)
-    both false y t = absurd t
 
 -- the end of the chain
 pub walk-none : (next : ℕ → ℕ) (at left : ℕ) → left ≤ 0 → walk next at left ≡ []
@@ -49,11 +46,9 @@ pub reads-turn : (size : ℕ) (links : List ℕ) (at left : ℕ) → 0 < left
     → reads size links at left ≡ (if eqb at 0 || ltb size at then false else reads size links (getD links (at - 1) 0) (left - 1))
 reads-turn size links at zero l = absurd (not-suc-le-zero l)
 reads-turn size links zero (suc n) l = refl
-reads-turn size links (suc p) (suc n) l = rw (sub-one (suc n), sub-one (suc p), eqb-no (suc p) 0 (λ e. omega arith)) (by (decLt p size))
-  where
-    by : Dec (p < size) → (ltb p size && reads size links (getD links p 0) n) ≡ (if ltb size (suc p) then false else reads size links (getD links p 0) n)
-    by (yes h) = rw (is-true (ltb p size) (lt→ltb p size h), is-false (ltb size (suc p)) (λ t. omega (arith, ltb→lt size (suc p) t)))
-    by (no d) = rw (is-false (ltb p size) (λ t. d (ltb→lt p size t)), is-true (ltb size (suc p)) (lt→ltb size (suc p) (omega arith)))
+reads-turn size links (suc p) (suc n) l = rw (sub-one (suc n), sub-one (suc p), eqb-no (suc p) 0 (λ e. omega arith)) (by-cases (decLt p size)
+    (λ h. rw (is-true (ltb p size) (lt→ltb p size h), is-false (ltb size (suc p)) (λ t. omega (arith, ltb→lt size (suc p) t))))
+    (λ d. rw (is-false (ltb p size) (λ t. d (ltb→lt p size t)), is-true (ltb size (suc p)) (lt→ltb size (suc p) (omega arith)))))
 
 pub reads-none : (size : ℕ) (links : List ℕ) (at left : ℕ) → left ≤ 0 → reads size links at left ≡ true
 reads-none size links at zero l = refl

@@ -1,11 +1,12 @@
 -- What a sound state has of demand 3; stage 1 and stage 2 of every run; merges change nothing in which pixels are held.
 use mathlib.Core.Path.{_≡_, refl, sym, subst}
 use mathlib.Core.Logic.{_↔_, _≢_, _⊎_, inl, inr}
-use mathlib.Core.Bool.{Bool, true, false, _&&_, true≢false}
+use mathlib.Core.Bool.{Bool, true, false}
 use mathlib.Core.List.{List}
 use Prim.Native.Nat.{ℕ, zero, suc, _*_, _≤_, _<_}
 use native.Mathlib.Decide.{ℕ-discrete}
 use native.Mathlib.Omega.{arith}
+use borrow.Author.Tests.{eqb-true}
 use lib.Dec.{T, eqb}
 use Rattle.rules.specs.Base.{if_then_else_}
 use Rattle.rules.specs.Color.{RunnerConfig, isDiscard, keyingOn, equalColor, pixel}
@@ -16,10 +17,10 @@ use Rattle.rules.specs.Run.{stage1, stage2}
 use Rattle.rules.specs.Ledger.{Held, enter, ledger}
 use Rattle.rules.specs.Demand3.{Discarded}
 use Rattle.rules.specs.Claim.{bit, occurs, tally, countOf, Stands, Holds, InResidue}
-use Rattle.rules.proofs.Facts.{countOf-lt, countOf-some}
+use Rattle.rules.proofs.Facts.{countOf-lt, countOf-some, T-both, both-true, is-true}
 use Rattle.rules.proofs.Forest.{Inside, residue-in, residue-out}
 use Rattle.rules.proofs.Sound.{Sound}
-use Rattle.rules.proofs.Visits.{Going, passes-going, eqb-is}
+use Rattle.rules.proofs.Visits.{Going, passes-going}
 use Rattle.rules.proofs.Basic.{plain-down, plain-to, plain-up, deepened-down, deepened-up}
 use Rattle.rules.proofs.Early.{Early, taken-early, fresh-early, prepareStage2-going}
 use Rattle.rules.proofs.Outputs.{area-le}
@@ -57,26 +58,14 @@ module _ {image : List ℕ} {size : ℕ} {h O : Held} {s : State} (S : Sound ima
 
   pub agrees : Kept image size h s
   agrees = record {
-    whole = λ j k p a b. torn j k p a b (ℕ-discrete j k);
-    distinct = λ j k n z a b. no-two j k a b (S .forest .nested j k (z .0) (z .1) (b (z .0) (z .1)) n);
+    whole = λ j k p a b. elim (ℕ-discrete j k) [ yes e ↦ inl (λ q x. subst (λ m. T (h m q)) (sym e) x) | no d ↦ elim (S .forest .nested j k p a b d) [ inl i ↦ inr (i .0) | inr i ↦ inl (i .0) ] ];
+    distinct = λ j k n z a b. elim (S .forest .nested j k (z .0) (z .1) (b (z .0) (z .1)) n) [ inl i ↦ i .1 .2 (a (i .1 .0) (i .1 .1)) | inr i ↦ i .1 .2 (b (i .1 .0) (i .1 .1)) ];
     labelled = S .forest .top-held;
     largest = λ k p a n. fewer k (label s p) (S .forest .under-top k p a n);
     lists = S .basic .lists;
     sums = S .basic .sums;
     residues = λ k z. (O k, rests k, S .residues k z);
   }
-    where
-      side : (j k : ℕ) → Inside (λ k p. T (h k p)) j k ⊎ Inside (λ k p. T (h k p)) k j → Holds h j k ⊎ Holds h k j
-      side j k (inl i) = inr (i .0)
-      side j k (inr i) = inl (i .0)
-
-      torn : (j k p : ℕ) → T (h j p) → T (h k p) → Dec (j ≡ k) → Holds h j k ⊎ Holds h k j
-      torn j k p a b (yes e) = inl (λ q x. subst (λ m. T (h m q)) (sym e) x)
-      torn j k p a b (no d) = side j k (S .forest .nested j k p a b d)
-
-      no-two : (j k : ℕ) → Holds h j k → Holds h k j → Inside (λ k p. T (h k p)) j k ⊎ Inside (λ k p. T (h k p)) k j → ⊥
-      no-two j k a b (inl i) = i .1 .2 (a (i .1 .0) (i .1 .1))
-      no-two j k a b (inr i) = i .1 .2 (b (i .1 .0) (i .1 .1))
 
 -- after n pixels of stage 1
 pub early-at : (o : RunnerConfig) (w h : ℕ) (image : List ℕ) (n : ℕ) → n ≤ w * h → Early image (w * h) (Discarded o image) (T (keyingOn o)) n (taken o w image (w * h) n)
@@ -87,19 +76,10 @@ early-at o w h image n le = taken-early o w gone keyed wide only fresh-early n l
     gone p a b = rw (a, b) tt
 
     keyed : (p : ℕ) → isKey o image p ≡ true → T (keyingOn o)
-    keyed p e = on (keyingOn o) (equalColor (pixel image p) (o .keyColor)) e
-      where
-        on : (a b : Bool) → a && b ≡ true → T a
-        on true b x = tt
-        on false b x = true≢false (sym x)
+    keyed p e = T-both (keyingOn o) (equalColor (pixel image p) (o .keyColor)) (subst T (sym e) tt) .0
 
     only : (p : ℕ) → Discarded o image p → (isKey o image p ≡ true) × (isDiscard (o .keyingAction) ≡ true)
-    only p x = two (isKey o image p) (isDiscard (o .keyingAction)) x
-      where
-        two : (a b : Bool) → T (a && b) → (a ≡ true) × (b ≡ true)
-        two true true t = (refl, refl)
-        two true false t = absurd t
-        two false b t = absurd t
+    only p x = both-true (isKey o image p) (isDiscard (o .keyingAction)) (is-true _ x)
 
     wide : (p : ℕ) → p < w * h → 0 < w
     wide p l = pos w l
@@ -121,7 +101,7 @@ stage2-passes o w h image = pick (eqb (o .hierarchical) 0) refl
     s = prepareStage2 (stage1 o w h image)
 
     pick : (b : Bool) → eqb (o .hierarchical) 0 ≡ b → (if b then outputAll s else passes o w h (w * h) s) ≡ passes o w h (w * h) s
-    pick true e = outputAll-passes o w h (eqb-is (o .hierarchical) 0 e) s (w * h) (area-le (prepareStage2-going (w * h) (stage1 o w h image) (early o w h image) .sound .basic))
+    pick true e = outputAll-passes o w h (eqb-true (o .hierarchical) 0 e) s (w * h) (area-le (prepareStage2-going (w * h) (stage1 o w h image) (early o w h image) .sound .basic))
     pick false e = refl
 
 pub going : (o : RunnerConfig) (w h : ℕ) (image : List ℕ) → Going image (w * h) (suc (w * h)) 0 (stage2 o w h (stage1 o w h image))

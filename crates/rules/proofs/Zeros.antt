@@ -12,11 +12,7 @@ abbrev pub Zeros : ℕ → List ℕ → Type 0
 Zeros i l = (j : ℕ) → j < i → getD l j 0 ≡ 0
 
 pub zeros-further : (l : List ℕ) (i : ℕ) → i < length l → Zeros i l → Zeros (i + 1) (set l i 0)
-zeros-further l i h z j k = go (ℕ-discrete j i)
-  where
-    go : Dec (j ≡ i) → getD (set l i 0) j 0 ≡ 0
-    go (yes e) = rw e (getD-set-same l i 0 0 h)
-    go (no d) = getD-set-other l i j 0 0 d ∙ z j (omega arith)
+zeros-further l i h z j k = elim (ℕ-discrete j i) [ yes e ↦ rw e (getD-set-same l i 0 0 h) | no d ↦ getD-set-other l i j 0 0 d ∙ z j (omega arith) ]
 
 pub zeros-all : (l : List ℕ) (i n : ℕ) → length l ≤ i → length l ≡ n → Zeros i l → l ≡ replicate n 0
 zeros-all l i n h e z = ext-getD 0 l (replicate n 0) (e ∙ sym (length-replicate n 0)) (λ j k. z j (omega arith) ∙ sym (getD-replicate n j 0 0 (omega arith)))

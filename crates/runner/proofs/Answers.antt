@@ -1,7 +1,8 @@
 -- The checks of the public calls, taken in two steps: the size of the image, then the rest.
 use mathlib.Core.Path.{_≡_, refl}
+use mathlib.Core.Logic.{by-cases}
 use mathlib.Core.Bool.{not, _&&_}
-use Prim.Native.Nat.{ℕ, _<_}
+use Prim.Native.Nat.{ℕ}
 use native.Mathlib.Omega.{arith}
 use native.Mathlib.Decide.{decLt}
 use lib.Dec.{ltb, leb, le→leb, leb→le, ltb→lt, lt→ltb}
@@ -14,11 +15,9 @@ use Rattle.rules.specs.Refusals.{badShift}
 use Rattle.rules.proofs.Facts.{is-true, is-false}
 
 above : (n : ℕ) → not (leb 0 n && leb n 7) ≡ ltb 7 n
-above n = rw (is-true (leb 0 n) (le→leb 0 n (omega arith))) (pick (decLt 7 n))
-  where
-    pick : Dec (7 < n) → not (leb n 7) ≡ ltb 7 n
-    pick (yes l) = rw (is-true (ltb 7 n) (lt→ltb 7 n l), is-false (leb n 7) (λ t. omega (arith, leb→le n 7 t)))
-    pick (no d) = rw (is-false (ltb 7 n) (λ t. d (ltb→lt 7 n t)), is-true (leb n 7) (le→leb n 7 (omega arith)))
+above n = rw (is-true (leb 0 n) (le→leb 0 n (omega arith))) (by-cases (decLt 7 n)
+    (λ l. rw (is-true (ltb 7 n) (lt→ltb 7 n l), is-false (leb n 7) (λ t. omega (arith, leb→le n 7 t))))
+    (λ d. rw (is-false (ltb 7 n) (λ t. d (ltb→lt 7 n t)), is-true (leb n 7) (le→leb n 7 (omega arith)))))
 
 -- the shift, by two signed comparisons
 pub shift-outside : {z : ℤ} → SFits w32 z → not (leZ (pos 0) (toZ w32 (ofZ w32 z)) && leZ (toZ w32 (ofZ w32 z)) (pos 7)) ≡ badShift z

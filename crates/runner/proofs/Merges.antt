@@ -2,7 +2,7 @@
 use mathlib.Core.Path.{_≡_, refl, sym, ap, ap₂, _∙_, subst}
 use mathlib.Core.Bool.{true, false}
 use mathlib.Core.List.{List}
-use Prim.Native.Nat.{ℕ, _+_, _-_, _*_, _≤_, _<_}
+use Prim.Native.Nat.{ℕ, _+_, _*_, _≤_, _<_}
 use native.Mathlib.Omega.{arith}
 use lib.Dec.{T, eqb}
 use lib.ListN.{length, getD, set}
@@ -14,7 +14,6 @@ use Rattle.rules.specs.Paint.{reads}
 use Rattle.rules.specs.Order.{Queue}
 use Rattle.rules.specs.Ranges.{Fits}
 use Rattle.rules.proofs.Facts.{eqb-no}
-use Rattle.rules.proofs.Basic.{deepen-moved}
 use Rattle.rules.proofs.Visits.{Near}
 use Rattle.rules.proofs.Visits as visits
 use Rattle.rules.proofs.Holes.{deepen-holes, deepen-t-holes}
@@ -23,9 +22,10 @@ use Rattle.runner.specs.declared.slot.Head.{Head}
 use Rattle.runner.specs.Slots.{Adds, headAt, headOf, savedHead, residueAt, savedResidue}
 use Rattle.runner.specs.Rep.{Rep, linkAfter}
 use Rattle.runner.specs.Ops.{Open, CanAppend, CanMerge, Merged, CanDeepen, Deepened, CanHollow, Hollowed}
+use Rattle.runner.proofs.Ops.{residue-head}
 use Rattle.runner.proofs.Tables.{head-at, residue-at, depth-at, holes-at}
 use Rattle.runner.proofs.RepReads.{root-chain, rep-reads, rep-walk, rep-tail, rep-labels-length, rep-links-length}
-use Rattle.runner.proofs.RepStage2.{head-residue, rep-merge, rep-deepen}
+use Rattle.runner.proofs.RepStage2.{rep-merge, rep-deepen}
 use Rattle.runner.proofs.RepHollow.{hole-tail-fits, rep-hollow}
 use Rattle.runner.proofs.Moment.{At, going, some-pixels, slot-fits}
 use Rattle.runner.proofs.Stage1Laws.{rep-is}
@@ -66,7 +66,7 @@ module _ {o : RunnerConfig} {w h : ℕ} {image : List ℕ} {q : Queue} {k : ℕ}
       end = omega (arith, R .room, A .ranged .slots);
       count = subst (λ x. x .count < 2000000) (sym (head j l)) (omega (arith, A .ranged .areas j, A .image-fits .small));
       tail = subst (λ x. 0 < x .count → (0 < getD E j 0) × (getD E j 0 ≤ length K)) (sym (head j l))
-          (λ z. let y = rep-tail (going A .sound) R j z r in (y .0, omega (arith, y .1, rep-links-length (going A .sound) R)));
+          (λ z. let y = rep-tail (going A .sound .basic) R j z r in (y .0, omega (arith, y .1, rep-links-length (going A .sound .basic) R)));
     }
 
     can-append : CanAppend k t L K B E
@@ -74,8 +74,8 @@ module _ {o : RunnerConfig} {w h : ℕ} {image : List ℕ} {q : Queue} {k : ℕ}
       from = open-slot k own-slot (A .ready .root);
       to = open-slot t target-slot (visits.target-root a k s (going A) (some-pixels A) refl t N);
       list = subst (λ x. T (reads (length L) K (x .first) (x .count))) (sym (head k own-slot))
-          (subst (λ n. T (reads n K (firstOf (cluster s k .pixels)) a)) (sym (rep-labels-length (going A .sound) R)) (rep-reads (going A .sound) R k (root-chain (going A .sound) k (A .ready .root))));
-      links = omega (arith, rep-labels-length (going A .sound) R, rep-links-length (going A .sound) R);
+          (subst (λ n. T (reads n K (firstOf (cluster s k .pixels)) a)) (sym (rep-labels-length (going A .sound .basic) R)) (rep-reads (going A .sound .basic) R k (root-chain (going A .sound) k (A .ready .root))));
+      links = omega (arith, rep-labels-length (going A .sound .basic) R, rep-links-length (going A .sound .basic) R);
       sum = subst (λ x. Adds (sumOf (x .sum)) (sumOf (headAt B k .sum))) (sym (head t target-slot))
           (subst (λ x. Adds (cluster s t .sum) (sumOf (x .sum))) (sym (head k own-slot)) (adds (w * h) (A .image-fits .small) (cluster s t .sum) (cluster s k .sum) (A .ranged .sums t) (A .ranged .sums k)));
     }
@@ -93,7 +93,7 @@ module _ {o : RunnerConfig} {w h : ℕ} {image : List ℕ} {q : Queue} {k : ℕ}
     -- what both merges write, with the heads that they read
     module _ (x : Head) (e : x ≡ headOf (cluster (q .now) k)) where
       relabels : relabel t (walk (λ p. getD K p 0) (x .first) (x .count)) L ≡ relabel t (cluster (q .now) k .pixels) L
-      relabels = ap (λ y. relabel t (walk (λ p. getD K p 0) (y .first) (y .count)) L) e ∙ ap (λ ps. relabel t ps L) (rep-walk (going A .sound) R k (root-chain (going A .sound) k (A .ready .root)))
+      relabels = ap (λ y. relabel t (walk (λ p. getD K p 0) (y .first) (y .count)) L) e ∙ ap (λ ps. relabel t ps L) (rep-walk (going A .sound .basic) R k (root-chain (going A .sound) k (A .ready .root)))
 
       ends-there : (if eqb (x .count) 0 then E else set E t (getD E k 0)) ≡ set E t (getD E k 0)
       ends-there = ap (λ y. if eqb (y .count) 0 then E else set E t (getD E k 0)) e ∙ ap (λ b. if b then E else set E t (getD E k 0)) (eqb-no a 0 (λ z. omega (arith, some-pixels A)))
@@ -113,10 +113,10 @@ module _ {o : RunnerConfig} {w h : ℕ} {image : List ℕ} {q : Queue} {k : ℕ}
         y = headAt (savedResidue B t (M .r)) t
 
         e : headAt (savedResidue B t (M .r)) k ≡ headOf (cluster (q .now) k)
-        e = head-residue B t (M .r) k ∙ head k own-slot
+        e = residue-head B t (M .r) k ∙ head k own-slot
 
         d : headAt (savedResidue B t (M .r)) t ≡ headOf (cluster (q .now) t)
-        d = head-residue B t (M .r) t ∙ head t target-slot
+        d = residue-head B t (M .r) t ∙ head t target-slot
 
     pub deepened-rep : {L′ K′ B′ E′ : List ℕ} → Deepened k t L K B E L′ K′ B′ E′ → Rep (w * h) (deepen false k t (q .now)) t₀ L′ K′ B′ E′
     deepened-rep {L′} {K′} {B′} {E′} D =
@@ -135,7 +135,7 @@ module _ {o : RunnerConfig} {w h : ℕ} {image : List ℕ} {q : Queue} {k : ℕ}
   -- and a hole child
   module _ {t₀ L K B E : List ℕ} (R : Rep (w * h) (deepen false k t (q .now)) t₀ L K B E) (fits : 21 * (w * h + 1) ≤ length t₀) where
     slots : length (deepen false k t (q .now) .clusters) ≡ length (q .now .clusters)
-    slots = deepen-moved k t s (visits.k≢t a k s (going A) (some-pixels A) refl t N) own-slot target-slot false .table
+    slots = visits.deepen-changes a k s (going A) (some-pixels A) refl t N false .table
 
     held : t < length (deepen false k t (q .now) .clusters)
     held = omega (arith, slots, target-slot)

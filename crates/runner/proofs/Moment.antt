@@ -109,18 +109,18 @@ module _ {o : RunnerConfig} {w h : ℕ} {image : List ℕ} {q : Queue} {k : ℕ}
 
     -- its list can be read, and is the list of the rules
     pub list-reads : T (reads (w * h) K (getD B (21 * k + 0) 0) (area (cluster (q .now) k)))
-    list-reads = subst (λ v. T (reads (w * h) K v (area (cluster s k)))) (sym first-is) (rep-reads (going .sound) R k (root-chain (going .sound) k (A .ready .root)))
+    list-reads = subst (λ v. T (reads (w * h) K v (area (cluster s k)))) (sym first-is) (rep-reads (going .sound .basic) R k (root-chain (going .sound) k (A .ready .root)))
 
     pub list-is : walk (λ p. getD K p 0) (getD B (21 * k + 0) 0) (area (cluster (q .now) k)) ≡ cluster (q .now) k .pixels
-    list-is = ap (λ v. walk (λ p. getD K p 0) v (area (cluster s k))) first-is ∙ rep-walk (going .sound) R k (root-chain (going .sound) k (A .ready .root))
+    list-is = ap (λ v. walk (λ p. getD K p 0) v (area (cluster s k))) first-is ∙ rep-walk (going .sound .basic) R k (root-chain (going .sound) k (A .ready .root))
 
     -- the scan for its neighbours
     pub scannable : (M : List ℕ) → length M ≡ w * h + 1 → (v : ℕ) → ((j : ℕ) → getD M j 0 < v) → Scannable L K B M w h k v
     scannable M wide v low = record {
       width = A .image-fits .columns;
       small = omega (arith, A .image-fits .small);
-      labelled = omega (arith, rep-labels-length (going .sound) R);
-      linked = omega (arith, rep-links-length (going .sound) R);
+      labelled = omega (arith, rep-labels-length (going .sound .basic) R);
+      linked = omega (arith, rep-links-length (going .sound .basic) R);
       own = averaged k (getD (cluster s k .pixels) 0 0) (visits.stands (area (cluster s k)) k s going some-pixels refl);
       few = omega (arith, count-is, A .ranged .areas k);
       readable = subst (λ n. T (reads (w * h) K (getD B (21 * k + 0) 0) n)) (sym count-is) list-reads;

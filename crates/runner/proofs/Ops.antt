@@ -1,8 +1,8 @@
 -- The heads of the table while residues change. Assumes nothing.
 use mathlib.Core.Path.{_≡_}
 use mathlib.Core.List.{List}
-use mathlib.Core.Logic.{_⊎_, inl, inr}
-use Prim.Native.Nat.{ℕ, _+_, _*_, _≤_, _<_}
+use mathlib.Core.Logic.{inl, inr}
+use Prim.Native.Nat.{ℕ, _+_, _*_, _<_}
 use native.Mathlib.Decide.{decLt}
 use native.Mathlib.Omega.{arith}
 use lib.Dec.{lit<}
@@ -16,11 +16,7 @@ module _ (B : List ℕ) (t : ℕ) (r : ColorSum) where
   -- a saved residue leaves the first eleven numbers of every slot
   head-number : (k f : ℕ) → f < 11 → getD (savedResidue B t r) (21 * k + f) 0 ≡ getD B (21 * k + f) 0
   unfolding savedResidue
-  head-number k f h = store-out B (21 * t) 11 (residueNumbers r) (21 * k + f) (side (decLt t k))
-    where
-      side : Dec (t < k) → (21 * k + f < 21 * t + 11) ⊎ (21 * t + 16 ≤ 21 * k + f)
-      side (yes l) = inr (omega arith)
-      side (no l) = inl (omega arith)
+  head-number k f h = store-out B (21 * t) 11 (residueNumbers r) (21 * k + f) (elim (decLt t k) [ yes l ↦ inr (omega arith) | no l ↦ inl (omega arith) ])
 
   pub residue-head : (k : ℕ) → headAt (savedResidue B t r) k ≡ headAt B k
   unfolding headAt
@@ -32,12 +28,7 @@ module _ (B : List ℕ) (t : ℕ) (r : ColorSum) where
   }
 
   residue-open : {k : ℕ} {K E : List ℕ} → Open k K B E → Open k K (savedResidue B t r) E
-  residue-open {k} o = record {
-    slot = rw residue-length (o .slot);
-    end = o .end;
-    count = rw (residue-head k) (o .count);
-    tail = rw (residue-head k) (o .tail);
-  }
+  residue-open {k} o = record { slot = rw residue-length (o .slot); end = o .end; count = rw (residue-head k) (o .count); tail = rw (residue-head k) (o .tail) }
 
   -- and what can be appended
   pub residue-append : {f : ℕ} {L K E : List ℕ} → CanAppend f t L K B E → CanAppend f t L K (savedResidue B t r) E

@@ -1,6 +1,6 @@
 -- The table of clusters without hole children, as in stage 1: a slot is a function of its cluster alone.
 use mathlib.Core.Path.{_≡_, refl, sym, ap, _∙_, subst}
-use mathlib.Core.Logic.{_≢_, inl, inr}
+use mathlib.Core.Logic.{_≢_, inl, inr, by-cases}
 use mathlib.Core.Bool.{Bool, true, false, not}
 use mathlib.Core.List.{List, [], _∷_, _++_}
 use Prim.Native.Nat.{ℕ, _+_, _-_, _*_, _≤_, _<_}
@@ -112,15 +112,13 @@ module _ {t₀ : List ℕ} {cs : List Cluster} {t : List ℕ} (H : Plain t₀ cs
   plain-new room = record {
     tabled = subst (λ n. Table n (plainOf (cs ++ (newCluster ∷ []))) t₀ (clearedSlot t (length cs))) (omega (arith, longer))
         (table-same (table-new (H .tabled) room)
-        (λ i f a b. zeros-at (cs ++ (newCluster ∷ [])) (length cs) (getD-append-seam cs newCluster [] newCluster) (λ j d. far j d (decLt j (length cs))) i f b (ℕ-discrete i (length cs))));
+        (λ i f a b. zeros-at (cs ++ (newCluster ∷ [])) (length cs) (getD-append-seam cs newCluster [] newCluster) (λ j d. by-cases (decLt j (length cs))
+        (λ l. List·getD-append cs (newCluster ∷ []) newCluster j l)
+        (λ l. List·getD-eq-default (cs ++ (newCluster ∷ [])) newCluster (omega (arith, longer)) ∙ sym (List·getD-eq-default cs newCluster (omega arith)))) i f b (ℕ-discrete i (length cs))));
   }
     where
       longer : length (cs ++ (newCluster ∷ [])) ≡ length cs + 1
       longer = length-append cs (newCluster ∷ [])
-
-      far : (j : ℕ) → j ≢ length cs → Dec (j < length cs) → getD (cs ++ (newCluster ∷ [])) j newCluster ≡ getD cs j newCluster
-      far j d (yes l) = List·getD-append cs (newCluster ∷ []) newCluster j l
-      far j d (no l) = List·getD-eq-default (cs ++ (newCluster ∷ [])) newCluster (omega (arith, longer)) ∙ sym (List·getD-eq-default cs newCluster (omega arith))
 
 -- slot k, of the table or the next after it, begins a cluster
 pub plain-begin : {t₀ : List ℕ} {cs : List Cluster} {t : List ℕ} → Plain t₀ cs t → (k : ℕ) (c : Cluster) → k ≤ length cs → 21 * (length cs + 1) ≤ length t₀ → restOf c ≡ restOf newCluster

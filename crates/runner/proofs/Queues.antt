@@ -2,8 +2,7 @@
 use mathlib.Core.Path.{_≡_, refl, sym, ap, _∙_, subst}
 use mathlib.Core.Logic.{_≢_, _⊎_, inl, inr}
 use mathlib.Core.List.{List}
-use mathlib.Core.Option.{some}
-use mathlib.Core.Option.{none as off}
+use mathlib.Core.Option.{some, none as off}
 use Prim.Native.Nat.{ℕ, zero, suc, _≤_, _<_}
 use native.Mathlib.Decide.{ℕ-discrete, decLt}
 use native.Mathlib.Omega.{arith}
@@ -50,38 +49,22 @@ module _ (queue : List ℕ) (n room : ℕ) (keys : List ℕ) (r : Entry) (K : Ke
       same = sym (at ∙ stored-some (getD keys (r .slot) 0) pos)
 
       least : (j : ℕ) → j < n → getD keys j 0 ≢ 0 → (getD keys (r .slot) 0 < getD keys j 0) ⊎ ((getD keys (r .slot) 0 ≡ getD keys j 0) × (r .slot ≤ j))
-      least j l m = go (F .least j l)
+      least j l m = elim (F .least j l) [ inl x ↦ inl (omega (arith, own, same)) | inr x ↦ inr (same ∙ x .0 ∙ own, x .1) ]
         where
           own : getD queue j 0 ≡ getD keys j 0
-          own = K .keyed j l ∙ stored-some (getD keys j 0) (go (decLt 0 (getD keys j 0)))
-            where
-              go : Dec (0 < getD keys j 0) → 0 < getD keys j 0
-              go (yes p) = p
-              go (no p) = absurd (m (omega arith))
-
-          go : (r .key < getD queue j 0) ⊎ ((r .key ≡ getD queue j 0) × (r .slot ≤ j)) → (getD keys (r .slot) 0 < getD keys j 0) ⊎ ((getD keys (r .slot) 0 ≡ getD keys j 0) × (r .slot ≤ j))
-          go (inl x) = inl (omega (arith, own, same))
-          go (inr x) = inr (same ∙ x .0 ∙ own, x .1)
+          own = K .keyed j l ∙ stored-some (getD keys j 0) (elim (decLt 0 (getD keys j 0)) [ yes p ↦ p | no p ↦ absurd (m (omega arith)) ])
 
   -- where the first key is NONE no slot is pending
   pub first-none : r .key ≡ 4294967295 → pick keys ≡ off
-  first-none e = pick-none keys (λ j. go j (decLt j n))
+  first-none e = pick-none keys (λ j. elim (decLt j n) [ yes l ↦ none j l (F .least j l) | no l ↦ List·getD-eq-default keys 0 {n = j} (omega (arith, K .wide)) ])
     where
       none : (j : ℕ) → j < n → (r .key < getD queue j 0) ⊎ ((r .key ≡ getD queue j 0) × (r .slot ≤ j)) → getD keys j 0 ≡ 0
       none j l (inl x) = absurd (omega (arith, e, K .keyed j l, stored-le (getD keys j 0) (K .below j l)))
       none j l (inr x) = stored-zero (getD keys j 0) (K .below j l) (sym (K .keyed j l) ∙ sym (x .0) ∙ e)
 
-      go : (j : ℕ) → Dec (j < n) → getD keys j 0 ≡ 0
-      go j (yes l) = none j l (F .least j l)
-      go j (no l) = List·getD-eq-default keys 0 {n = j} (omega (arith, K .wide))
-
 -- ---- the keys of the queue and of the rules change together
 
 module _ (queue exit : List ℕ) (n room : ℕ) (keys : List ℕ) (K : Keyed queue n keys) (fits : n ≤ room) where
-  -- the same keys
-  pub keyed-same : ((x : ℕ) → x < room → getD exit x 0 ≡ getD queue x 0) → Keyed exit n keys
-  keyed-same h = record { wide = K .wide; below = K .below; keyed = λ j l. h j (omega arith) ∙ K .keyed j l }
-
   -- one key changed; of a slot that is no longer pending v is 0
   pub keyed-set : (k v : ℕ) → k < n → room ≤ length queue → v < 4294967295 → ((x : ℕ) → x < room → getD exit x 0 ≡ getD (set queue k (stored v)) x 0) → Keyed exit n (set keys k v)
   keyed-set k v b long small h = record {
@@ -100,7 +83,3 @@ module _ (queue exit : List ℕ) (n room : ℕ) (keys : List ℕ) (K : Keyed que
       keyed : (j : ℕ) → j < n → Dec (j ≡ k) → getD (set queue k (stored v)) j 0 ≡ stored (getD (set keys k v) j 0)
       keyed j l (yes e) = subst (λ y. getD (set queue k (stored v)) y 0 ≡ stored (getD (set keys k v) y 0)) (sym e) (getD-set-same queue k (stored v) 0 (omega arith) ∙ ap stored (sym new))
       keyed j l (no d) = getD-set-other queue k j (stored v) 0 d ∙ K .keyed j l ∙ ap stored (sym (getD-set-other keys k j v 0 d))
-
-  -- a slot that is pending
-  pub keyed-put : (k v : ℕ) → k < n → room ≤ length queue → 0 < v → v < 4294967295 → ((x : ℕ) → x < room → getD exit x 0 ≡ getD (set queue k v) x 0) → Keyed exit n (set keys k v)
-  keyed-put k v b long pos small h = keyed-set k v b long small (subst (λ y. (x : ℕ) → x < room → getD exit x 0 ≡ getD (set queue k y) x 0) (sym (stored-some v pos)) h)

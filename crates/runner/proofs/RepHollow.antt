@@ -1,6 +1,6 @@
 -- The buffers keep holding the state of the rules when a cluster that deepened becomes a hole child.
 use mathlib.Core.Path.{_≡_, refl, sym, ap, ap₂, _∙_, subst}
-use mathlib.Core.Logic.{_≢_}
+use mathlib.Core.Logic.{_≢_, by-cases}
 use mathlib.Core.Bool.{true, false}
 use mathlib.Core.List.{List, [], _∷_, _++_}
 use Prim.Native.Nat.{ℕ, suc, _+_, _-_, _*_, _≤_, _<_}
@@ -10,20 +10,20 @@ use lib.Dec.{eqb, lit≤, lit<}
 use lib.ListN.{length, getD, set, length-set, length-append}
 use lib.Seq.{getD-set-same, getD-set-other}
 use Rattle.rules.specs.Base.{if_then_else_}
-use Rattle.rules.specs.State.{State, Cluster, cluster, label, area, relabel, withCluster, deeper, deepen}
+use Rattle.rules.specs.State.{State, Cluster, cluster, label, area, withCluster, deeper, deepen}
 use Rattle.rules.specs.Layout.{after, firstOf, slot}
 use Rattle.rules.specs.Claim.{bit, occurs}
 use Rattle.rules.proofs.Facts.{eqb-no, occurs-append}
-use Rattle.rules.proofs.Basic.{deepen-f, deepen-t, deepen-moved}
 use Rattle.rules.proofs.Links.{last, after-none, after-skip, after-last, after-before}
-use Rattle.rules.proofs.Visits.{Going, Near, root, k≢t, k-slot, t-slot, target-root}
+use Rattle.rules.proofs.Visits.{Going, Near, root, k≢t, t-slot, target-root, deepen-changes, deepen-from, deepen-to}
 use Rattle.rules.proofs.Holes.{Holes, root-unnamed, child-slot, deepen-t-holes, deepen-other-into, deepen-into}
-use Rattle.runner.specs.Slots.{store, savedHead, headOf}
-use Rattle.runner.specs.Rep.{Table, Rep, lastOf, linkAfter, written, slotsOf}
+use Rattle.runner.specs.Slots.{store}
+use Rattle.runner.specs.Rep.{Table, Rep, lastOf, written, slotsOf}
 use Rattle.runner.proofs.Tables.{table-set, holes-at}
 use Rattle.runner.proofs.Rows.{row-in, row-out, numbers, row, nextHole, slot-is, slot-row, Fills, table-fills}
-use Rattle.runner.proofs.RepStage2.{links-same, rep-deepen}
-use Rattle.runner.proofs.Joined.{lastOf-last, lastOf-append, last-occurs, area-slot}
+use Rattle.runner.proofs.RepStage2.{links-same}
+use Rattle.runner.proofs.Joined.{last-occurs, area-slot}
+use Rattle.runner.proofs.Tails.{lastOf-last, lastOf-append}
 
 -- the firsts of lists that have one
 firstOf-append : (xs ys : List ℕ) → 0 < length xs → firstOf (xs ++ ys) ≡ firstOf xs
@@ -34,12 +34,6 @@ firstOf-append (x ∷ xs) ys z = refl
 -- f, which just deepened into t, becomes the last of its hole children
 module _ {image : List ℕ} {size : ℕ} (a f : ℕ) (s : State) (G : Going image size a f s) (pos : 0 < a) (e : area (cluster s f) ≡ a) (t : ℕ) (N : Near s (label s (getD (cluster s f .pixels) 0 0)) t)
     (H : Holes s) where
-  n : f ≢ t
-  n = k≢t a f s G pos e t N
-
-  f-slot : f < length (s .clusters)
-  f-slot = k-slot a f s G pos e t N
-
   t-in : t < length (s .clusters)
   t-in = t-slot a f s G pos e t N
 
@@ -60,28 +54,22 @@ module _ {image : List ℕ} {size : ℕ} (a f : ℕ) (s : State) (G : Going imag
   unnamed k r = root-unnamed H k r t
 
   same-cluster : (k : ℕ) → k ≢ t → cluster holed k ≡ cluster bare k
-  same-cluster k m = pick (ℕ-discrete k f)
-    where
-      pick : Dec (k ≡ f) → cluster holed k ≡ cluster bare k
-      pick (yes z) = subst (λ j. cluster holed j ≡ cluster bare j) (sym z) (deepen-f f t s n f-slot t-in true ∙ sym (deepen-f f t s n f-slot t-in false))
-      pick (no z) = deepen-moved f t s n f-slot t-in true .other k z m ∙ sym (deepen-moved f t s n f-slot t-in false .other k z m)
+  same-cluster k m = by-cases (ℕ-discrete k f)
+      (λ z. subst (λ j. cluster holed j ≡ cluster bare j) (sym z) (deepen-from a f s G pos e t N true ∙ sym (deepen-from a f s G pos e t N false)))
+      (λ z. deepen-changes a f s G pos e t N true .other k z m ∙ sym (deepen-changes a f s G pos e t N false .other k z m))
 
   same-pixels : (k : ℕ) → cluster holed k .pixels ≡ cluster bare k .pixels
-  same-pixels k = pick (ℕ-discrete k t)
-    where
-      pick : Dec (k ≡ t) → cluster holed k .pixels ≡ cluster bare k .pixels
-      pick (yes z) = subst (λ j. cluster holed j .pixels ≡ cluster bare j .pixels) (sym z) (deepen-moved f t s n f-slot t-in true .t-pixels ∙ sym (deepen-moved f t s n f-slot t-in false .t-pixels))
-      pick (no z) = ap (λ c. c .pixels) (same-cluster k z)
+  same-pixels k = by-cases (ℕ-discrete k t)
+      (λ z. subst (λ j. cluster holed j .pixels ≡ cluster bare j .pixels) (sym z) (deepen-changes a f s G pos e t N true .t-pixels ∙ sym (deepen-changes a f s G pos e t N false .t-pixels)))
+      (λ z. ap (λ c. c .pixels) (same-cluster k z))
 
   same-into : (k : ℕ) → cluster holed k .mergedInto ≡ cluster bare k .mergedInto
-  same-into k = pick (ℕ-discrete k t)
-    where
-      pick : Dec (k ≡ t) → cluster holed k .mergedInto ≡ cluster bare k .mergedInto
-      pick (yes z) = subst (λ j. cluster holed j .mergedInto ≡ cluster bare j .mergedInto) (sym z) (deepen-moved f t s n f-slot t-in true .t-merged ∙ sym (deepen-moved f t s n f-slot t-in false .t-merged))
-      pick (no z) = ap (λ c. c .mergedInto) (same-cluster k z)
+  same-into k = by-cases (ℕ-discrete k t)
+      (λ z. subst (λ j. cluster holed j .mergedInto ≡ cluster bare j .mergedInto) (sym z) (deepen-changes a f s G pos e t N true .t-merged ∙ sym (deepen-changes a f s G pos e t N false .t-merged)))
+      (λ z. ap (λ c. c .mergedInto) (same-cluster k z))
 
   same-labels : bare .labels ≡ holed .labels
-  same-labels = deepen-moved f t s n f-slot t-in false .labels ∙ sym (deepen-moved f t s n f-slot t-in true .labels)
+  same-labels = deepen-changes a f s G pos e t N false .labels ∙ sym (deepen-changes a f s G pos e t N true .labels)
 
   was : cluster bare t .holes ≡ hs
   was = deepen-t-holes a f s G pos e t N false
@@ -113,16 +101,14 @@ module _ {image : List ℕ} {size : ℕ} (a f : ℕ) (s : State) (G : Going imag
   t-is : (x y : ℕ) → length (hs ++ (f ∷ [])) ≡ x → firstOf (hs ++ (f ∷ [])) ≡ y → numbers (cluster bare t) x y (nextHole bare t) ≡ slot holed t
   unfolding withCluster deeper
   t-is x y p q =
-      ap (λ c. numbers c x y (nextHole bare t)) (deepen-t f t s n f-slot t-in false) ∙ ap₂ (λ i j. numbers (deeper false f to) i j (nextHole bare t)) (sym p) (sym q)
-      ∙ sym (slot-is holed t (deeper true f to) (nextHole bare t) (deepen-t f t s n f-slot t-in true) (same-next t (λ z. n (sym z)) (λ z. absurd (z (unnamed t (target-root a f s G pos e t N))))))
+      ap (λ c. numbers c x y (nextHole bare t)) (deepen-to a f s G pos e t N false) ∙ ap₂ (λ i j. numbers (deeper false f to) i j (nextHole bare t)) (sym p) (sym q)
+      ∙ sym (slot-is holed t (deeper true f to) (nextHole bare t) (deepen-to a f s G pos e t N true) (same-next t (λ z. k≢t a f s G pos e t N (sym z)) (λ z. absurd (z (unnamed t (target-root a f s G pos e t N))))))
 
   -- a slot that is neither t's nor that of its last child
   o-is : (k : ℕ) → k ≢ t → (occurs k hs ≢ 0 → k ≢ last hs) → row bare k ≡ slot holed k
-  o-is k m l = sym (slot-is holed k (cluster bare k) (nextHole bare k) (same-cluster k m) (next (ℕ-discrete k f)))
-    where
-      next : Dec (k ≡ f) → nextHole holed k ≡ nextHole bare k
-      next (yes z) = subst (λ j. nextHole holed j ≡ nextHole bare j) (sym z) f-next
-      next (no z) = same-next k z l
+  o-is k m l = sym (slot-is holed k (cluster bare k) (nextHole bare k) (same-cluster k m) (by-cases (ℕ-discrete k f)
+      (λ z. subst (λ j. nextHole holed j ≡ nextHole bare j) (sym z) f-next)
+      (λ z. same-next k z l)))
 
   -- the last of some children
   module _ (some : 0 < length hs) where
@@ -147,7 +133,7 @@ module _ {image : List ℕ} {size : ℕ} (a f : ℕ) (s : State) (G : Going imag
 
   module _ {t₀ ls ks tb es : List ℕ} (R : Rep size (deepen false f t s) t₀ ls ks tb es) (few : length (s .clusters) ≤ size + 1) (fits : 21 * length (s .clusters) ≤ length t₀) where
     held : length (bare .clusters) ≡ length (s .clusters)
-    held = deepen-moved f t s n f-slot t-in false .table
+    held = deepen-changes a f s G pos e t N false .table
 
     start : Table (length (s .clusters)) (slotsOf bare) t₀ tb
     start = subst (λ m. Table m (slotsOf bare) t₀ tb) held (R .tabled)
@@ -220,7 +206,7 @@ module _ {image : List ℕ} {size : ℕ} (a f : ℕ) (s : State) (G : Going imag
     }
       where
         whole : length (holed .clusters) ≡ length (s .clusters)
-        whole = deepen-moved f t s n f-slot t-in true .table
+        whole = deepen-changes a f s G pos e t N true .table
 
         tb′ : ℕ → List ℕ
         tb′ x = set (set tb (21 * t + 18) (x + 1)) (at x) (f + 1)
@@ -241,34 +227,3 @@ pub hole-tail-fits : {size : ℕ} {s : State} {t₀ ls ks tb es : List ℕ} → 
 hole-tail-fits {s = s} R H k z =
     let l : lastOf (cluster s k .holes) ≡ suc (last (cluster s k .holes)) = lastOf-last (cluster s k .holes) z in
     (omega (arith, R .hole-tails k z, l), omega (arith, R .hole-tails k z, l, child-slot H k (last (cluster s k .holes)) (last-occurs (cluster s k .holes) z)))
-
--- a deepening merge with its hole, all at once
-pub rep-deepen-hollow : {image : List ℕ} {size : ℕ} (a f : ℕ) (s : State) → Going image size a f s → 0 < a → area (cluster s f) ≡ a → (t : ℕ) → Near s (label s (getD (cluster s f .pixels) 0 0)) t
-    → {t₀ ls ks tb es : List ℕ} → Rep size s t₀ ls ks tb es → length (s .clusters) ≤ size + 1 → 21 * length (s .clusters) ≤ length t₀ → Holes s
-    → Rep size (deepen true f t s) t₀ (relabel t (cluster s f .pixels) ls) (linkAfter ks (area (cluster s t)) (getD es t 0) (firstOf (cluster s f .pixels)))
-    (set (set (set (set (savedHead tb t (headOf (withCluster (cluster s f) (cluster s t)))) (21 * f + 16) t) (21 * t + 17) (cluster s t .depth + 1)) (21 * t + 18) (length (cluster s t .holes) + 1))
-    (if eqb (length (cluster s t .holes)) 0 then 21 * t + 19 else 21 * (getD es (size + 1 + t) 0 - 1) + 20) (f + 1))
-    (set (set es t (getD es f 0)) (size + 1 + t) (f + 1))
-rep-deepen-hollow {size = size} a f s G pos e t N {t₀} {ls} {ks} {tb} {es} R few fits H =
-    subst (λ y. Held (length (cluster s t .holes)) y) tail (subst (λ x. Held x (getD (set es t (getD es f 0)) (size + 1 + t) 0)) count (rep-hollow a f s G pos e t N H D few fits))
-  where
-    tb′ : List ℕ
-    tb′ = set (set (savedHead tb t (headOf (withCluster (cluster s f) (cluster s t)))) (21 * f + 16) t) (21 * t + 17) (cluster s t .depth + 1)
-
-    D : Rep size (deepen false f t s) t₀ (relabel t (cluster s f .pixels) ls) (linkAfter ks (area (cluster s t)) (getD es t 0) (firstOf (cluster s f .pixels))) tb′ (set es t (getD es f 0))
-    D = rep-deepen a f s G pos e t N R few fits H
-
-    Held : ℕ → ℕ → Type 0
-    Held x y = Rep size (deepen true f t s) t₀ (relabel t (cluster s f .pixels) ls) (linkAfter ks (area (cluster s t)) (getD es t 0) (firstOf (cluster s f .pixels)))
-        (set (set tb′ (21 * t + 18) (x + 1)) (if eqb x 0 then 21 * t + 19 else 21 * (y - 1) + 20) (f + 1)) (set (set es t (getD es f 0)) (size + 1 + t) (f + 1))
-
-    ts : t < length (s .clusters)
-    ts = t-slot a f s G pos e t N
-
-    count : getD tb′ (21 * t + 18) 0 ≡ length (cluster s t .holes)
-    count =
-        holes-at (deepen false f t s) (D .tabled) t (omega (arith, ts, deepen-moved f t s (k≢t a f s G pos e t N) (k-slot a f s G pos e t N) ts false .table))
-        ∙ ap length (deepen-t-holes a f s G pos e t N false)
-
-    tail : getD (set es t (getD es f 0)) (size + 1 + t) 0 ≡ getD es (size + 1 + t) 0
-    tail = getD-set-other es t (size + 1 + t) (getD es f 0) 0 (λ z. omega (arith, ts))

@@ -3,7 +3,7 @@ use mathlib.Core.Path.{_≡_, refl, sym, ap, _∙_, subst}
 use mathlib.Core.Logic.{_≢_}
 use mathlib.Core.Bool.{Bool, true, false}
 use mathlib.Core.List.{List, [], _∷_, _++_, append-nil}
-use Prim.Native.Nat.{ℕ, suc, _+_, _*_, _≤_, _<_}
+use Prim.Native.Nat.{ℕ, _+_, _*_, _≤_, _<_}
 use native.Mathlib.Decide.{ℕ-discrete}
 use native.Mathlib.Omega.{arith}
 use lib.Dec.{T, eqb, eqb·suc-zero, ltb}
@@ -14,21 +14,17 @@ use Rattle.rules.specs.Color.{Color}
 use Rattle.rules.specs.State.{State, BoundingRect, newCluster, cluster, label, area, relabel, withPixel, withCluster, emptied, fresh, add, beginCluster, combine}
 use Rattle.rules.specs.Stage1.{lowerNext}
 use Rattle.rules.specs.Layout.{after, firstOf, link, links, slot, walk}
-use Rattle.rules.specs.Ledger.{ledger}
 use Rattle.rules.specs.Claim.{bit, occurs}
 use Rattle.rules.specs.Paint.{reads}
-use Rattle.rules.specs.Ranges.{Below}
-use Rattle.rules.proofs.Facts.{T-bit, bit-T, is-false, eqb-yes, eqb-no, length-relabel}
-use Rattle.rules.proofs.Basic.{Moved, three, combine-f, combine-t, combine-moved, lab-from, lab-other}
+use Rattle.rules.proofs.Facts.{eqb-yes, eqb-no}
+use Rattle.rules.proofs.Basic.{Moved, three, combine-f, combine-t, combine-moved, some-held, held-none, once-held}
 use Rattle.rules.proofs.Early.{Early, Placed, placed, fresh-cluster}
-use Rattle.rules.proofs.Links.{last, last-in, after-none}
+use Rattle.rules.proofs.Links.{after-none, Tailed, moved-tailed, moved-other}
 use Rattle.rules.proofs.Layouts.{links-length, links-at}
-use Rattle.rules.proofs.Chains.{read}
-use Rattle.rules.proofs.Ranges.{occurs-below}
-use Rattle.rules.proofs.Paint.{reads-walk}
 use Rattle.runner.specs.Slots.{headOf, savedHead, clearedSlot}
 use Rattle.runner.specs.Rep.{Table, Rep, lastOf, slotsOf, linkAfter}
-use Rattle.runner.proofs.Tails.{Tailed, tailed-links, lastOf-last, lastOf-append, linkAfter-tail, linkAfter-empty}
+use Rattle.runner.proofs.Tails.{lastOf-append, linkAfter-empty, linked-tail}
+use Rattle.runner.proofs.RepReads.{label-chain, rep-labels-length, rep-links-length, rep-reads, rep-walk, rep-tail}
 use Rattle.runner.proofs.PlainSlots.{Plain, restOf, plain-of, of-plain, plain-head, plain-new, plain-begin}
 
 named-none : (xs : List ℕ) → ((p : ℕ) → occurs p xs ≡ 0) → xs ≡ []
@@ -38,96 +34,26 @@ named-none (x ∷ r) e = absurd (let b : bit (eqb x x) ≡ 1 = ap bit (eqb-yes x
 -- ---- the list of a cluster gets a tail
 
 module _ {image : List ℕ} {size : ℕ} {Gone : ℕ → Type 0} {Keyed : Type 0} {i : ℕ} {s : State} (E : Early image size Gone Keyed i s) where
-  holds : (k p : ℕ) → occurs p (cluster s k .pixels) ≢ 0 → T (ledger (s .log) k p)
-  holds k p d = bit-T (ledger (s .log) k p) (λ q. d (E .basic .lists k p ∙ q))
-
-  lacks : (k p : ℕ) → occurs p (cluster s k .pixels) ≡ 0 → T (ledger (s .log) k p) → ⊥
-  lacks k p e x = let b : bit (ledger (s .log) k p) ≡ 1 = T-bit (ledger (s .log) k p) x in omega (arith, E .basic .lists k p)
-
-  none-of : (k p : ℕ) → (T (ledger (s .log) k p) → ⊥) → occurs p (cluster s k .pixels) ≡ 0
-  none-of k p x = E .basic .lists k p ∙ ap bit (is-false (ledger (s .log) k p) x)
-
-  once-in : (k p : ℕ) → occurs p (cluster s k .pixels) ≤ 1
-  once-in k p = pick (ledger (s .log) k p) (E .basic .lists k p)
-    where
-      pick : (b : Bool) → occurs p (cluster s k .pixels) ≡ bit b → occurs p (cluster s k .pixels) ≤ 1
-      pick true e = omega arith
-      pick false e = omega arith
-
-  owner : (k p : ℕ) → occurs p (cluster s k .pixels) ≢ 0 → label s p ≡ k
-  owner k p d = E .flats k p (holds k p d)
-
-  own-link : (k p : ℕ) → occurs p (cluster s k .pixels) ≢ 0 → link s p ≡ after p (cluster s k .pixels)
-  unfolding link
-  own-link k p d = ap (λ m. after p (cluster s m .pixels)) (owner k p d)
-
   -- the pixel to be taken is in no list
   untaken : (k : ℕ) → occurs i (cluster s k .pixels) ≡ 0
-  untaken k = none-of k i (λ x. let l : i < i = E .before k i x in omega arith)
+  untaken k = held-none (E .basic) k i (λ x. let l : i < i = E .before k i x in omega arith)
 
   -- by the pixel to be taken
-  pixel-tailed : {s′ : State} (k : ℕ) → i < size → s′ .labels ≡ set (s .labels) i k → cluster s′ k .pixels ≡ cluster s k .pixels ++ (i ∷ [])
-      → ((j : ℕ) → j ≢ k → cluster s′ j ≡ cluster s j) → Tailed k (i ∷ []) s s′
+  pixel-tailed : {s′ : State} (k : ℕ) → i < size → s′ .labels ≡ set (s .labels) i k → cluster s′ k .pixels ≡ cluster s k .pixels ++ (i ∷ []) → Tailed k (i ∷ []) s s′
   unfolding link after
-  pixel-tailed {s′} k l labels here other = record {
+  pixel-tailed {s′} k l labels here = record {
     wide = ap length labels ∙ length-set (s .labels) i k;
     grown = here;
-    once = once-in k;
-    own = owner k;
+    once = once-held (E .basic) k;
+    own = λ p d. E .flats k p (some-held (E .basic) k p d);
     apart = λ p d. subst (λ q. occurs q (cluster s k .pixels) ≡ 0) (sym (only p d)) (untaken k);
     moved = λ p d. ap (label s′) (only p d) ∙ ap (λ ls. getD ls i 0) labels ∙ getD-set-same (s .labels) i k 0 (omega (arith, E .basic .width));
     along = λ p d. ap (link s) (only p d) ∙ after-none i (cluster s (label s i) .pixels) (untaken (label s i));
-    stays = stay;
-    other = λ p e d. ap (λ m. after p (cluster s′ m .pixels)) (stay p e) ∙ ap (λ c. after p (c .pixels)) (other (label s p) d);
+    stays = λ p e. ap (λ ls. getD ls p 0) labels ∙ getD-set-other (s .labels) i p k 0 (λ z. let b : bit (eqb p i) ≡ 1 = ap bit (eqb-yes p i z) in omega arith);
   }
     where
       only : (p : ℕ) → occurs p (i ∷ []) ≢ 0 → p ≡ i
-      only p d = pick (ℕ-discrete p i)
-        where
-          pick : Dec (p ≡ i) → p ≡ i
-          pick (yes e) = e
-          pick (no e) = absurd (d (let b : bit (eqb p i) ≡ 0 = ap bit (eqb-no p i e) in omega arith))
-
-      stay : (p : ℕ) → occurs p (i ∷ []) ≡ 0 → label s′ p ≡ label s p
-      stay p e = ap (λ ls. getD ls p 0) labels ∙ getD-set-other (s .labels) i p k 0 (λ z. let b : bit (eqb p i) ≡ 1 = ap bit (eqb-yes p i z) in omega arith)
-
-  -- by a merge
-  module _ (f t : ℕ) (n : f ≢ t) (hf : f < s .next) (ht : t < s .next) where
-    disjoint : (p : ℕ) → T (ledger (s .log) t p) → T (ledger (s .log) f p) → ⊥
-    disjoint p a b = n (sym (E .flats f p b) ∙ E .flats t p a)
-
-    f-slot : f < length (s .clusters)
-    f-slot = omega (arith, E .room)
-
-    t-slot : t < length (s .clusters)
-    t-slot = omega (arith, E .room)
-
-    combine-tailed : Tailed t (cluster s f .pixels) s (combine f t s)
-    unfolding link emptied after
-    combine-tailed = record {
-      wide = ap length (M .labels) ∙ length-relabel t (cluster s f .pixels) (s .labels);
-      grown = M .t-pixels;
-      once = once-in t;
-      own = owner t;
-      apart = λ p d. none-of t p (λ x. disjoint p x (holds f p d));
-      moved = λ p d. lab-from (E .basic) f t n disjoint t-slot M p (holds f p d);
-      along = own-link f;
-      stays = stay;
-      other = λ p e d. ap (λ m. after p (cluster (combine f t s) m .pixels)) (stay p e) ∙ far p e d (ℕ-discrete (label s p) f);
-    }
-      where
-        M : Moved f t s (combine f t s)
-        M = combine-moved f t s n f-slot t-slot
-
-        stay : (p : ℕ) → occurs p (cluster s f .pixels) ≡ 0 → label (combine f t s) p ≡ label s p
-        stay p e = lab-other (E .basic) f t n disjoint t-slot M p (lacks f p e)
-
-        -- a pixel that is labelled f and is not in its list has label 0: its link is 0 before and after
-        far : (p : ℕ) → occurs p (cluster s f .pixels) ≡ 0 → label s p ≢ t → Dec (label s p ≡ f) → after p (cluster (combine f t s) (label s p) .pixels) ≡ after p (cluster s (label s p) .pixels)
-        far p e d (yes z) =
-            ap (λ m. after p (cluster (combine f t s) m .pixels)) z ∙ ap (λ c. after p (c .pixels)) (combine-f f t s n f-slot t-slot)
-            ∙ sym (ap (λ m. after p (cluster s m .pixels)) z ∙ after-none p (cluster s f .pixels) e)
-        far p e d (no z) = ap (λ c. after p (c .pixels)) (M .other (label s p) z d)
+      only p d = elim (ℕ-discrete p i) [ yes e ↦ e | no e ↦ absurd (d (let b : bit (eqb p i) ≡ 0 = ap bit (eqb-no p i e) in omega arith)) ]
 
 -- ---- the buffers
 
@@ -159,39 +85,32 @@ rep-lower l R = record { labelled = R .labelled; linked = R .linked; tabled = R 
 
 module _ {image : List ℕ} {size : ℕ} {Gone : ℕ → Type 0} {Keyed : Type 0} {i : ℕ} {s : State} {t₀ labels links′ table ends : List ℕ} (E : Early image size Gone Keyed i s)
     (R : Rep size s t₀ labels links′ table ends) (fits : i < size) where
-  -- the list of t gets a tail
-  rep-links : {s′ : State} {xs : List ℕ} (t : ℕ) → Tailed t xs s s′ → linkAfter links′ (area (cluster s t)) (getD ends t 0) (firstOf xs) ≡ links s′
-  rep-links {s′} {xs} t M =
-      ap (λ ls. linkAfter ls (area (cluster s t)) (getD ends t 0) (firstOf xs)) (R .linked)
-      ∙ linkAfter-tail (links s) (area (cluster s t)) (getD ends t 0) (lastOf (cluster s t .pixels)) (firstOf xs) (λ l. R .tails t l (E .roots t))
-      ∙ sym (tailed-links M)
-
   -- pixel i goes to cluster k
   rep-pixel : (s′ : State) (table′ : List ℕ) (k : ℕ) → k ≤ size → s′ .labels ≡ set (s .labels) i k → cluster s′ k .pixels ≡ cluster s k .pixels ++ (i ∷ [])
       → ((j : ℕ) → j ≢ k → cluster s′ j ≡ cluster s j) → cluster s′ k .holes ≡ []
       → (((j : ℕ) → cluster s′ j .holes ≡ []) → Table (length (s′ .clusters)) (slotsOf s′) t₀ table′)
       → Rep size s′ t₀ (set labels i k) (linkAfter links′ (area (cluster s k)) (getD ends k 0) (i + 1)) table′ (set ends k (i + 1))
-  unfolding firstOf lastOf
+  unfolding firstOf lastOf link
   rep-pixel s′ table′ k small labels′ here other none tabled = record {
     labelled = ap (λ ls. set ls i k) (R .labelled) ∙ sym labels′;
-    linked = ap (linkAfter links′ (area (cluster s k)) (getD ends k 0)) (omega arith) ∙ rep-links k (pixel-tailed E k fits labels′ here other);
+    linked = ap (linkAfter links′ (area (cluster s k)) (getD ends k 0)) (omega arith) ∙ linked-tail tailed
+        (λ p e d. ap (λ m. after p (cluster s′ m .pixels)) (tailed .stays p e) ∙ ap (λ c. after p (c .pixels)) (other (label s p) d)) (R .linked) (λ l. R .tails k l (E .roots k));
     tabled = tabled nones;
     tails = λ j a z. tail j a (ℕ-discrete j k);
     hole-tails = λ j a. absurd (omega (arith, ap length (nones j)));
     room = length-set ends k (i + 1) ∙ R .room;
   }
     where
+      tailed : Tailed k (i ∷ []) s s′
+      tailed = pixel-tailed E k fits labels′ here
+
       nones : (j : ℕ) → cluster s′ j .holes ≡ []
-      nones j = pick (ℕ-discrete j k)
-        where
-          pick : Dec (j ≡ k) → cluster s′ j .holes ≡ []
-          pick (yes e) = ap (λ m. cluster s′ m .holes) e ∙ none
-          pick (no d) = ap (λ c. c .holes) (other j d) ∙ E .no-holes j
+      nones j = elim (ℕ-discrete j k) [ yes e ↦ ap (λ m. cluster s′ m .holes) e ∙ none | no d ↦ ap (λ c. c .holes) (other j d) ∙ E .no-holes j ]
 
       tail : (j : ℕ) → 0 < area (cluster s′ j) → Dec (j ≡ k) → getD (set ends k (i + 1)) j 0 ≡ lastOf (cluster s′ j .pixels)
       tail j a (yes e) =
           ap (λ m. getD (set ends k (i + 1)) m 0) e ∙ getD-set-same ends k (i + 1) 0 (omega (arith, R .room)) ∙ omega arith
-          ∙ sym (ap (λ m. lastOf (cluster s′ m .pixels)) e ∙ ap lastOf here ∙ lastOf-append (cluster s k .pixels) i [])
+          ∙ sym (ap (λ m. lastOf (cluster s′ m .pixels)) e ∙ ap lastOf here ∙ lastOf-append (cluster s k .pixels) (i ∷ []) (omega arith))
       tail j a (no d) =
           getD-set-other ends k j (i + 1) 0 d ∙ R .tails j (omega (arith, ap area (other j d))) (E .roots j) ∙ ap (λ c. lastOf (c .pixels)) (sym (other j d))
 
@@ -224,7 +143,7 @@ module _ {image : List ℕ} {size : ℕ} {Gone : ℕ → Type 0} {Keyed : Type 0
         P = placed (s .clusters) (s .next) (withPixel i c at newCluster) (E .room) (ltb (s .next) (length (s .clusters))) refl
 
         empty : cluster s (s .next) .pixels ≡ []
-        empty = named-none (cluster s (s .next) .pixels) (λ p. none-of E (s .next) p (E .free (s .next) p (omega arith)))
+        empty = named-none (cluster s (s .next) .pixels) (λ p. held-none (E .basic) (s .next) p (E .free (s .next) p (omega arith)))
 
   module _ (f t : ℕ) (n : f ≢ t) (hf : f < s .next) (ht : t < s .next) where
     to : t < length (s .clusters)
@@ -258,7 +177,7 @@ module _ {image : List ℕ} {size : ℕ} {Gone : ℕ → Type 0} {Keyed : Type 0
             R .tails t (omega (arith, ap length q)) (E .roots t) ∙ ap lastOf (sym q)
         joined (y ∷ ys) e a = rw (eqb·suc-zero (length ys))
             (getD-set-same ends t (getD ends f 0) 0 (omega (arith, R .room, E .short)) ∙ R .tails f (omega (arith, ap length e)) (E .roots f) ∙ ap lastOf e
-            ∙ sym (ap lastOf (M .t-pixels ∙ ap (λ xs. cluster s t .pixels ++ xs) e) ∙ lastOf-append (cluster s t .pixels) y ys))
+            ∙ sym (ap lastOf (M .t-pixels ∙ ap (λ xs. cluster s t .pixels ++ xs) e) ∙ lastOf-append (cluster s t .pixels) (y ∷ ys) (omega arith)))
 
     combine-table : 21 * length (s .clusters) ≤ length t₀
         → Plain t₀ (combine f t s .clusters) (savedHead (savedHead table t (headOf (withCluster (cluster s f) (cluster s t)))) f (headOf newCluster))
@@ -276,7 +195,8 @@ module _ {image : List ℕ} {size : ℕ} {Gone : ℕ → Type 0} {Keyed : Type 0
     unfolding withCluster emptied
     rep-combine room = record {
       labelled = ap (relabel t (cluster s f .pixels)) (R .labelled) ∙ sym (M .labels);
-      linked = rep-links t (combine-tailed E f t n hf ht);
+      linked = linked-tail (moved-tailed (E .basic) f t n M (E .flats f) (E .flats t))
+          (λ p. moved-other (E .basic) f t n M (E .flats f) (E .flats t) p (λ z. ap (λ c. occurs p (c .pixels)) (combine-f f t s n from to))) (R .linked) (λ l. R .tails t l (E .roots t));
       tabled = of-plain (combine f t s) nones (combine-table room);
       tails = λ j a z. combine-tails j a;
       hole-tails = λ j a. absurd (omega (arith, ap length (nones j)));
@@ -297,41 +217,18 @@ module _ {image : List ℕ} {size : ℕ} {Gone : ℕ → Type 0} {Keyed : Type 0
 module _ {image : List ℕ} {size : ℕ} {Gone : ℕ → Type 0} {Keyed : Type 0} {i : ℕ} {s : State} {t₀ labels links′ table ends : List ℕ} (E : Early image size Gone Keyed i s)
     (R : Rep size s t₀ labels links′ table ends) where
   pub labels-long : length labels ≡ size
-  labels-long = ap length (R .labelled) ∙ E .basic .width
+  labels-long = rep-labels-length (E .basic) R
 
   pub links-long : length links′ ≡ size
-  links-long = ap length (R .linked) ∙ links-length s ∙ E .basic .width
-
-module _ {image : List ℕ} {size : ℕ} {Gone : ℕ → Type 0} {Keyed : Type 0} {i : ℕ} {s : State} {t₀ labels links′ table ends : List ℕ} (E : Early image size Gone Keyed i s)
-    (R : Rep size s t₀ labels links′ table ends) (k : ℕ) where
-  on-image : (p : ℕ) → occurs p (cluster s k .pixels) ≢ 0 → p < size
-  on-image p d = subst (λ w. p < w) (E .basic .width) (E .basic .places k p (holds E k p d))
-
-  both : T (reads size links′ (firstOf (cluster s k .pixels)) (area (cluster s k))) × (walk (λ p. getD links′ p 0) (firstOf (cluster s k .pixels)) (length (cluster s k .pixels)) ≡ cluster s k .pixels)
-  both = (r .0, r .1 ∙ chain)
-    where
-      chain : walk (link s) (firstOf (cluster s k .pixels)) (length (cluster s k .pixels)) ≡ cluster s k .pixels
-      chain = read (link s) (cluster s k .pixels) (once-in E k) (own-link E k) [] (cluster s k .pixels) [] (sym (append-nil (cluster s k .pixels)))
-
-      r : T (reads size links′ (firstOf (cluster s k .pixels)) (length (cluster s k .pixels)))
-          × (walk (λ p. getD links′ p 0) (firstOf (cluster s k .pixels)) (length (cluster s k .pixels)) ≡ walk (link s) (firstOf (cluster s k .pixels)) (length (cluster s k .pixels)))
-      r = reads-walk size s links′ (λ p l. ap (λ ls. getD ls p 0) (R .linked) ∙ links-at s p (omega (arith, E .basic .width))) (length (cluster s k .pixels)) (firstOf (cluster s k .pixels))
-          (ap length chain) (subst (Below size) (sym chain) (occurs-below size (cluster s k .pixels) on-image))
+  links-long = rep-links-length (E .basic) R
 
   -- its list can be read along the links
-  pub list-reads : T (reads size links′ (firstOf (cluster s k .pixels)) (area (cluster s k)))
-  list-reads = both .0
+  pub list-reads : (k : ℕ) → T (reads size links′ (firstOf (cluster s k .pixels)) (area (cluster s k)))
+  list-reads k = rep-reads (E .basic) R k (label-chain (E .basic) k (E .flats k))
 
-  pub list-walk : walk (λ p. getD links′ p 0) (firstOf (cluster s k .pixels)) (area (cluster s k)) ≡ cluster s k .pixels
-  list-walk = both .1
+  pub list-walk : (k : ℕ) → walk (λ p. getD links′ p 0) (firstOf (cluster s k .pixels)) (area (cluster s k)) ≡ cluster s k .pixels
+  list-walk k = rep-walk (E .basic) R k (label-chain (E .basic) k (E .flats k))
 
   -- the last pixel is on the image
-  pub tail-in : 0 < area (cluster s k) → (0 < getD ends k 0) × (getD ends k 0 ≤ size)
-  tail-in a = pick (cluster s k .pixels) refl
-    where
-      pick : (xs : List ℕ) → cluster s k .pixels ≡ xs → (0 < getD ends k 0) × (getD ends k 0 ≤ size)
-      pick [] e = absurd (omega (arith, ap length e))
-      pick (x ∷ r) e =
-          let q : getD ends k 0 ≡ suc (last (x ∷ r)) = R .tails k a (E .roots k) ∙ ap lastOf e ∙ lastOf-last x r in
-          let l : last (x ∷ r) < size = on-image (last (x ∷ r)) (subst (λ ys. occurs (last (x ∷ r)) ys ≢ 0) (sym e) (last-in x r)) in
-          (omega arith, omega arith)
+  pub tail-in : (k : ℕ) → 0 < area (cluster s k) → (0 < getD ends k 0) × (getD ends k 0 ≤ size)
+  tail-in k a = rep-tail (E .basic) R k a (E .roots k)

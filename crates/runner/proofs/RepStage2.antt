@@ -1,6 +1,6 @@
 -- The buffers keep holding the state of the rules through the operations of stage 2.
 use mathlib.Core.Path.{_≡_, refl, sym, ap, ap₂, _∙_, subst, fun-ext}
-use mathlib.Core.Logic.{_≢_, inl, inr}
+use mathlib.Core.Logic.{_≢_, inl, by-cases}
 use mathlib.Core.Bool.{false}
 use mathlib.Core.List.{List, [], _∷_, map}
 use Prim.Native.Nat.{ℕ, suc, _+_, _*_, _≤_, _<_}
@@ -16,30 +16,23 @@ use Rattle.rules.specs.State.{State, Cluster, newCluster, cluster, label, area,
 use Rattle.rules.specs.Layout.{after, firstOf, link, links, sumNumbers, slot}
 use Rattle.rules.specs.Stage2.{prepareStage2}
 use Rattle.rules.specs.Claim.{occurs}
-use Rattle.rules.proofs.Basic.{Moved, three, merge-f, merge-t, merge-moved, deepen-f, deepen-t, deepen-moved}
+use Rattle.rules.proofs.Basic.{Moved, three}
 use Rattle.rules.proofs.Links.{after-none}
-use Rattle.rules.proofs.Visits.{Going, Near, root, k≢t, k-slot, t-slot}
+use Rattle.rules.proofs.Visits.{Going, Near, root, k≢t, k-slot, t-slot, merge-changes, merge-from, merge-to, deepen-changes, deepen-from, deepen-to}
 use Rattle.rules.proofs.Early.{settled}
 use Rattle.rules.proofs.Holes.{Holes, root-unnamed, merge-same-holes, merge-same-into, deepen-t-holes, deepen-other-holes, deepen-other-into, deepen-into}
 use Rattle.color.specs.Colors.{sumOf}
 use Rattle.color.specs.declared.ColorSum.{ColorSum}
 use Rattle.runner.specs.Slots.{sumAt, store, headAt, headNumbers, savedHead, residueNumbers, savedResidue, headOf}
 use Rattle.runner.specs.Rep.{Table, Rep, lastOf, linkAfter, written, slotsOf}
-use Rattle.runner.proofs.Tables.{store-out, written-out, table-head, table-residue, table-set, table-same}
+use Rattle.runner.proofs.Tables.{written-out, table-head, table-residue, table-set, table-same}
 use Rattle.runner.proofs.Rows.{Row, row-in, row-out, row, nextHole, slot-is, slot-row, Fills, table-fills}
 use Rattle.runner.proofs.Joined.{moved-labels, moved-links, moved-tails}
 
 -- a cluster that is put out changes no buffer
 pub rep-put : {size : ℕ} {s : State} {t₀ ls ks tb es : List ℕ} (k : ℕ) → Rep size s t₀ ls ks tb es → Rep size (put k s) t₀ ls ks tb es
 unfolding put links link slot
-rep-put k R = record {
-  labelled = R .labelled;
-  linked = R .linked;
-  tabled = R .tabled;
-  tails = R .tails;
-  hole-tails = R .hole-tails;
-  room = R .room;
-}
+rep-put k R = record { labelled = R .labelled; linked = R .linked; tabled = R .tabled; tails = R .tails; hole-tails = R .hole-tails; room = R .room }
 
 -- links read only labels and lists
 pub links-same : (s u : State) → s .labels ≡ u .labels → ((k : ℕ) → cluster s k .pixels ≡ cluster u k .pixels) → links s ≡ links u
@@ -124,23 +117,6 @@ module _ (s : State) {n : ℕ} {t₀ tb : List ℕ} where
 
 -- ---- merges
 
--- a residue that is saved changes no head
-pub head-residue : (tb : List ℕ) (j : ℕ) (x : ColorSum) (k : ℕ) → headAt (savedResidue tb j x) k ≡ headAt tb k
-unfolding headAt savedResidue
-head-residue tb j x k = λ i. record {
-  first = same 0 (lit< tt) i;
-  count = same 1 (lit< tt) i;
-  rect = record { left = same 2 (lit< tt) i; top = same 3 (lit< tt) i; right = same 4 (lit< tt) i; bottom = same 5 (lit< tt) i };
-  sum = record { r = same 6 (lit< tt) i; g = same 7 (lit< tt) i; b = same 8 (lit< tt) i; a = same 9 (lit< tt) i; counter = same 10 (lit< tt) i };
-}
-  where
-    same : (f : ℕ) → f < 11 → getD (store tb (21 * j) 11 (residueNumbers x)) (21 * k + f) 0 ≡ getD tb (21 * k + f) 0
-    same f b = pick (decLt j k)
-      where
-        pick : Dec (j < k) → getD (store tb (21 * j) 11 (residueNumbers x)) (21 * k + f) 0 ≡ getD tb (21 * k + f) 0
-        pick (yes l) = store-out tb (21 * j) 11 (residueNumbers x) (21 * k + f) (inr (omega arith))
-        pick (no l) = store-out tb (21 * j) 11 (residueNumbers x) (21 * k + f) (inl (omega arith))
-
 module _ {image : List ℕ} {size : ℕ} (a f : ℕ) (s : State) (G : Going image size a f s) (pos : 0 < a) (e : area (cluster s f) ≡ a) (t : ℕ) (N : Near s (label s (getD (cluster s f .pixels) 0 0)) t)
     {t₀ ls ks tb es : List ℕ} (R : Rep size s t₀ ls ks tb es) (few : length (s .clusters) ≤ size + 1) (fits : 21 * length (s .clusters) ≤ length t₀) where
   d : f ≢ t
@@ -183,10 +159,10 @@ module _ {image : List ℕ} {size : ℕ} (a f : ℕ) (s : State) (G : Going imag
       σ = written (written (written (slotsOf s) t 11 (residueNumbers r)) t 0 (headNumbers (headOf to))) f 0 (headNumbers (headOf newCluster))
 
       M : Moved f t s (merge f t s)
-      M = merge-moved f t s d fs ts
+      M = merge-changes a f s G pos e t N
 
       from : cluster (merge f t s) f ≡ emptied (cluster s f)
-      from = merge-f f t s d fs ts
+      from = merge-from a f s G pos e t N
 
       next : (k : ℕ) → nextHole (merge f t s) k ≡ nextHole s k
       next k = ap (λ m. after k (cluster (merge f t s) m .holes)) (merge-same-into a f s G pos e t N k) ∙ ap (after k) (merge-same-holes a f s G pos e t N (cluster s k .mergedInto))
@@ -202,7 +178,7 @@ module _ {image : List ℕ} {size : ℕ} (a f : ℕ) (s : State) (G : Going imag
       t-fills = (
         store (store (row s t) 0 11 (residueNumbers r)) 0 0 (headNumbers (headOf to)),
         row-out f 0 (headNumbers (headOf newCluster)) (λ z. d (sym z)) (row-in 0 (headNumbers (headOf to)) (lit≤ tt) (row-in 11 (residueNumbers r) (lit≤ tt) (slot-row s t))),
-        sym (slot-is u t (withResidue (sumOf r) to) (nextHole s t) (merge-t f t s d fs ts ∙ ap (λ x. withResidue x to) (sym re)) (next t)),
+        sym (slot-is u t (withResidue (sumOf r) to) (nextHole s t) (merge-to a f s G pos e t N ∙ ap (λ x. withResidue x to) (sym re)) (next t)),
       )
 
       o-fills : (k : ℕ) → k ≢ f → k ≢ t → Fills σ u k
@@ -238,18 +214,16 @@ module _ {image : List ℕ} {size : ℕ} (a f : ℕ) (s : State) (G : Going imag
       σ = written (written (written (slotsOf s) t 0 (headNumbers (headOf to))) f 16 (t ∷ [])) t 17 ((cluster s t .depth + 1) ∷ [])
 
       M : Moved f t s (deepen false f t s)
-      M = deepen-moved f t s d fs ts false
+      M = deepen-changes a f s G pos e t N false
 
       from : cluster (deepen false f t s) f ≡ mergedTo t (cluster s f)
-      from = deepen-f f t s d fs ts false
+      from = deepen-from a f s G pos e t N false
 
       -- no hole list changes
       same : (k : ℕ) → cluster (deepen false f t s) k .holes ≡ cluster s k .holes
-      same k = pick (ℕ-discrete k t)
-        where
-          pick : Dec (k ≡ t) → cluster (deepen false f t s) k .holes ≡ cluster s k .holes
-          pick (yes z) = subst (λ m. cluster (deepen false f t s) m .holes ≡ cluster s m .holes) (sym z) (deepen-t-holes a f s G pos e t N false)
-          pick (no z) = deepen-other-holes a f s G pos e t N false k z
+      same k = by-cases (ℕ-discrete k t)
+          (λ z. subst (λ m. cluster (deepen false f t s) m .holes ≡ cluster s m .holes) (sym z) (deepen-t-holes a f s G pos e t N false))
+          (λ z. deepen-other-holes a f s G pos e t N false k z)
 
       next : (k : ℕ) → k ≢ f → nextHole (deepen false f t s) k ≡ nextHole s k
       next k n = ap (λ m. after k (cluster (deepen false f t s) m .holes)) (deepen-other-into a f s G pos e t N false k n) ∙ ap (after k) (same (cluster s k .mergedInto))
@@ -272,7 +246,7 @@ module _ {image : List ℕ} {size : ℕ} (a f : ℕ) (s : State) (G : Going imag
       t-fills = (
         store (store (row s t) 0 0 (headNumbers (headOf to))) 0 17 ((cluster s t .depth + 1) ∷ []),
         row-in 17 ((cluster s t .depth + 1) ∷ []) (lit≤ tt) (row-out f 16 (t ∷ []) (λ z. d (sym z)) (row-in 0 (headNumbers (headOf to)) (lit≤ tt) (slot-row s t))),
-        sym (slot-is u t (deeper false f to) (nextHole s t) (deepen-t f t s d fs ts false) (next t (λ z. d (sym z)))),
+        sym (slot-is u t (deeper false f to) (nextHole s t) (deepen-to a f s G pos e t N false) (next t (λ z. d (sym z)))),
       )
 
       o-fills : (k : ℕ) → k ≢ f → k ≢ t → Fills σ u k

@@ -1,6 +1,5 @@
 -- Where the numbers of a slot stand in the table, and when a head is that of a cluster. Assumes nothing.
 use mathlib.Core.Path.{_≡_}
-use native.Mathlib.Omega.{arith}
 use lib.ListN.{length}
 use Rattle.rules.specs.State.{Cluster}
 use Rattle.rules.specs.Layout.{firstOf}

@@ -2,7 +2,7 @@
 use mathlib.Core.Bool.{Bool, true, false, _&&_}
 use mathlib.Core.Path.{_≡_, refl, sym, _∙_, subst}
 use mathlib.Core.List.{List, [], _∷_}
-use mathlib.Core.Logic.{_≢_, _⊎_, inl, inr}
+use mathlib.Core.Logic.{_≢_, _⊎_, inl, inr, by-cases}
 use Prim.Native.Nat.{ℕ, suc, _+_, _-_, _*_, _/_, _%_, _≤_, _<_}
 use native.Mathlib.Decide.{ℕ-discrete, decLt}
 use native.Mathlib.Omega.{arith}
@@ -12,7 +12,7 @@ use lib.ListN.{length, getD, set, drop, replicate, length-set, length-append, le
 use lib.Seq.{getD-set-same, getD-set-other, getD-drop, getD-append-add, ext-getD}
 use Rattle.rules.specs.Base.{if_then_else_}
 use Rattle.rules.specs.State.{State, cluster}
-use Rattle.rules.specs.Layout.{after, firstOf, sumNumbers, slot, table}
+use Rattle.rules.specs.Layout.{firstOf, sumNumbers, slot, table}
 use Rattle.rules.specs.Calls.{over}
 use Rattle.rules.proofs.Layouts.{table-at, table-length}
 use Rattle.color.specs.Colors.{sumOf}
@@ -27,10 +27,6 @@ store-length t base j [] = refl
 store-length t base j (v ∷ vs) = store-length (set t (base + j) v) base (suc j) vs ∙ length-set t (base + j) v
 
 -- the length after a save
-pub head-length : (t : List ℕ) (k : ℕ) (s : Head) → length (savedHead t k s) ≡ length t
-unfolding savedHead
-head-length t k s = store-length t (21 * k) 0 (headNumbers s)
-
 pub residue-length : (t : List ℕ) (k : ℕ) (s : ColorSum) → length (savedResidue t k s) ≡ length t
 unfolding savedResidue
 residue-length t k s = store-length t (21 * k) 11 (residueNumbers s)
@@ -48,15 +44,9 @@ store-out t base j (v ∷ vs) i (inr h) = store-out (set t (base + j) v) base (s
 -- what is stored
 pub store-in : (t : List ℕ) (base j : ℕ) (vs : List ℕ) (f : ℕ) → j ≤ f → f < j + length vs → base + (j + length vs) ≤ length t → getD (store t base j vs) (base + f) 0 ≡ getD vs (f - j) 0
 store-in t base j [] f l u h = absurd (omega arith)
-store-in t base j (v ∷ vs) f l u h = go (ℕ-discrete f j) (store-in (set t (base + j) v) base (suc j) vs f)
-  where
-    go : Dec (f ≡ j) → (suc j ≤ f → f < suc j + length vs → base + (suc j + length vs) ≤ length (set t (base + j) v) → getD (store (set t (base + j) v) base (suc j) vs) (base + f) 0 ≡ getD vs (f - suc j) 0) → getD (store (set t (base + j) v) base (suc j) vs) (base + f) 0 ≡ getD (v ∷ vs) (f - j) 0
-    go (yes z) ih =
-        let d : f - j ≡ 0 = omega arith in
-        rw d (store-out (set t (base + j) v) base (suc j) vs (base + f) (inl (omega arith)) ∙ (rw z (getD-set-same t (base + j) v 0 (omega arith))))
-    go (no z) ih =
-        let d : f - j ≡ suc (f - suc j) = omega arith in
-        rw d (ih (omega arith) (omega arith) (simp length-set (omega arith)))
+store-in t base j (v ∷ vs) f l u h = by-cases (ℕ-discrete f j)
+    (λ z. let d : f - j ≡ 0 = omega arith in rw d (store-out (set t (base + j) v) base (suc j) vs (base + f) (inl (omega arith)) ∙ (rw z (getD-set-same t (base + j) v 0 (omega arith)))))
+    (λ z. let d : f - j ≡ suc (f - suc j) = omega arith in rw d (store-in (set t (base + j) v) base (suc j) vs f (omega arith) (omega arith) (simp length-set (omega arith))))
 
 -- the numbers written
 pub written-in : (σ : ℕ → ℕ → ℕ) (k j : ℕ) (vs : List ℕ) (f : ℕ) → j ≤ f → f < j + length vs → written σ k j vs k f ≡ getD vs (f - j) 0
@@ -173,10 +163,6 @@ module _ (s : State) {n : ℕ} {t₀ t : List ℕ} (T : Table n (slotsOf s) t₀
   unfolding slot sumNumbers
   count-at = number 1 (lit< tt)
 
-  pub merged-at : getD t (21 * k + 16) 0 ≡ cluster s k .mergedInto
-  unfolding slot sumNumbers
-  merged-at = number 16 (lit< tt)
-
   pub depth-at : getD t (21 * k + 17) 0 ≡ cluster s k .depth
   unfolding slot sumNumbers
   depth-at = number 17 (lit< tt)
@@ -184,14 +170,6 @@ module _ (s : State) {n : ℕ} {t₀ t : List ℕ} (T : Table n (slotsOf s) t₀
   pub holes-at : getD t (21 * k + 18) 0 ≡ length (cluster s k .holes)
   unfolding slot sumNumbers
   holes-at = number 18 (lit< tt)
-
-  pub first-hole-at : getD t (21 * k + 19) 0 ≡ firstOf (cluster s k .holes)
-  unfolding slot sumNumbers
-  first-hole-at = number 19 (lit< tt)
-
-  pub next-hole-at : getD t (21 * k + 20) 0 ≡ after k (cluster s (cluster s k .mergedInto) .holes)
-  unfolding slot sumNumbers
-  next-hole-at = number 20 (lit< tt)
 
 -- a table of all slots of a state is the state's table written over what was there
 pub table-over : (s : State) {t₀ t : List ℕ} → Table (length (s .clusters)) (slotsOf s) t₀ t → 21 * length (s .clusters) ≤ length t₀ → t ≡ over (table s) t₀

@@ -1,6 +1,6 @@
 -- Laws of the tournament tree. Assumes nothing.
 use mathlib.Core.Path.{_≡_, refl, sym, ap, ap₂, _∙_, subst}
-use mathlib.Core.Logic.{_⊎_, inl, inr}
+use mathlib.Core.Logic.{_⊎_, inl, inr, by-cases}
 use mathlib.Core.Bool.{Bool, true, false, _&&_}
 use mathlib.Core.List.{List}
 use Prim.Native.Nat.{ℕ, zero, suc, _+_, _*_, _-_, _/_, _%_, _≤_, _<_}
@@ -121,6 +121,13 @@ module _ (queue : List ℕ) (n room x : ℕ) where
   unfolding entryAt
   at-node l = rw (lt-leb n x l)
 
+-- where the numbers that a position reads are the same, it holds the same
+same-entry : (queue next : List ℕ) (n room x : ℕ) → (x < n → (getD next (room + 2 * x) 0 ≡ getD queue (room + 2 * x) 0) × (getD next (room + 2 * x + 1) 0 ≡ getD queue (room + 2 * x + 1) 0))
+    → (n ≤ x → getD next (x - n) 0 ≡ getD queue (x - n) 0) → entryAt next n room x ≡ entryAt queue n room x
+same-entry queue next n room x inner outer = by-cases (decLt x n)
+    (λ y. at-node next n room x y ∙ ap₂ (λ k s. record { key = k; slot = s }) (inner y .0) (inner y .1) ∙ sym (at-node queue n room x y))
+    (λ y. at-leaf next n room x (omega arith) ∙ ap (λ k. record { key = k; slot = x - n }) (outer (omega arith)) ∙ sym (at-leaf queue n room x (omega arith)))
+
 -- ---- the least
 
 module _ (queue : List ℕ) (n room : ℕ) (H : Tree queue n room) where
@@ -130,7 +137,9 @@ module _ (queue : List ℕ) (n room : ℕ) (H : Tree queue n room) where
 
   -- a node comes before what stands below it
   above : (x : ℕ) → 2 ≤ x → x < 2 * n → Before (entryAt queue n room (x / 2)) (entryAt queue n room x)
-  above x a b = go (ℕ-discrete x (2 * (x / 2)))
+  above x a b = by-cases (ℕ-discrete x (2 * (x / 2)))
+      (λ e. subst (λ e. Before e (entryAt queue n room x)) (sym N) (subst (λ y. Before (firstBelow queue n room (x / 2)) (entryAt queue n room y)) (sym e) (F .0)))
+      (λ d. subst (λ e. Before e (entryAt queue n room x)) (sym N) (subst (λ y. Before (firstBelow queue n room (x / 2)) (entryAt queue n room y)) (let z : 2 * (x / 2) + 1 ≡ x = omega arith in z) (F .1)))
     where
       F : Chosen (entryAt queue n room (2 * (x / 2))) (entryAt queue n room (2 * (x / 2) + 1)) (firstBelow queue n room (x / 2))
       F = first-of (entryAt queue n room (2 * (x / 2))) (entryAt queue n room (2 * (x / 2) + 1))
@@ -138,36 +147,25 @@ module _ (queue : List ℕ) (n room : ℕ) (H : Tree queue n room) where
       N : entryAt queue n room (x / 2) ≡ firstBelow queue n room (x / 2)
       N = node-is (x / 2) (omega arith) (omega arith)
 
-      go : Dec (x ≡ 2 * (x / 2)) → Before (entryAt queue n room (x / 2)) (entryAt queue n room x)
-      go (yes e) = subst (λ e. Before e (entryAt queue n room x)) (sym N) (subst (λ y. Before (firstBelow queue n room (x / 2)) (entryAt queue n room y)) (sym e) (F .0))
-      go (no d) = subst (λ e. Before e (entryAt queue n room x)) (sym N) (subst (λ y. Before (firstBelow queue n room (x / 2)) (entryAt queue n room y)) (let z : 2 * (x / 2) + 1 ≡ x = omega arith in z) (F .1))
-
   -- the root comes before every position
   root-before : (m x : ℕ) → x ≤ m → 1 ≤ x → x < 2 * n → Before (entryAt queue n room 1) (entryAt queue n room x)
   root-before zero x l a b = absurd (omega arith)
-  root-before (suc m) x l a b = go (ℕ-discrete x 1) (root-before m (x / 2))
-    where
-      go : Dec (x ≡ 1) → (x / 2 ≤ m → 1 ≤ x / 2 → x / 2 < 2 * n → Before (entryAt queue n room 1) (entryAt queue n room (x / 2))) → Before (entryAt queue n room 1) (entryAt queue n room x)
-      go (yes e) R = subst (λ y. Before (entryAt queue n room 1) (entryAt queue n room y)) (sym e) (before-refl (entryAt queue n room 1))
-      go (no d) R = before-trans (entryAt queue n room 1) (entryAt queue n room (x / 2)) (entryAt queue n room x) (R (omega arith) (omega arith) (omega arith)) (above x (omega arith) b)
+  root-before (suc m) x l a b = by-cases (ℕ-discrete x 1)
+      (λ e. subst (λ y. Before (entryAt queue n room 1) (entryAt queue n room y)) (sym e) (before-refl (entryAt queue n room 1)))
+      (λ d. before-trans (entryAt queue n room 1) (entryAt queue n room (x / 2)) (entryAt queue n room x) (root-before m (x / 2) (omega arith) (omega arith) (omega arith)) (above x (omega arith) b))
 
   -- every position holds some slot with its key
   some-leaf : (m x : ℕ) → 2 * n ≤ x + m → 1 ≤ x → x < 2 * n → (k : ℕ) × (k < n) × (entryAt queue n room x ≡ leaf queue k)
   some-leaf zero x l a b = absurd (omega arith)
-  some-leaf (suc m) x l a b = go (decLt x n) (some-leaf m (2 * x)) (some-leaf m (2 * x + 1))
+  some-leaf (suc m) x l a b = by-cases (decLt x n)
+      (λ d. elim (first-of (entryAt queue n room (2 * x)) (entryAt queue n room (2 * x + 1)) .2) [
+        | inl e ↦ up (2 * x) (node-is x a d ∙ e) (some-leaf m (2 * x) (omega arith) (omega arith) (omega arith))
+        | inr e ↦ up (2 * x + 1) (node-is x a d ∙ e) (some-leaf m (2 * x + 1) (omega arith) (omega arith) (omega arith))
+      ])
+      (λ d. (x - n, omega arith, at-leaf queue n room x (omega arith)))
     where
       up : (y : ℕ) → entryAt queue n room x ≡ entryAt queue n room y → (k : ℕ) × (k < n) × (entryAt queue n room y ≡ leaf queue k) → (k : ℕ) × (k < n) × (entryAt queue n room x ≡ leaf queue k)
       up y e (k, l, z) = (k, l, e ∙ z)
-
-      go : Dec (x < n) → (2 * n ≤ 2 * x + m → 1 ≤ 2 * x → 2 * x < 2 * n → (k : ℕ) × (k < n) × (entryAt queue n room (2 * x) ≡ leaf queue k))
-          → (2 * n ≤ 2 * x + 1 + m → 1 ≤ 2 * x + 1 → 2 * x + 1 < 2 * n → (k : ℕ) × (k < n) × (entryAt queue n room (2 * x + 1) ≡ leaf queue k))
-          → (k : ℕ) × (k < n) × (entryAt queue n room x ≡ leaf queue k)
-      go (no d) L R = (x - n, omega arith, at-leaf queue n room x (omega arith))
-      go (yes d) L R = side (first-of (entryAt queue n room (2 * x)) (entryAt queue n room (2 * x + 1)) .2)
-        where
-          side : (firstBelow queue n room x ≡ entryAt queue n room (2 * x)) ⊎ (firstBelow queue n room x ≡ entryAt queue n room (2 * x + 1)) → (k : ℕ) × (k < n) × (entryAt queue n room x ≡ leaf queue k)
-          side (inl e) = up (2 * x) (node-is x a d ∙ e) (L (omega arith) (omega arith) (omega arith))
-          side (inr e) = up (2 * x + 1) (node-is x a d ∙ e) (R (omega arith) (omega arith) (omega arith))
 
   -- the root is the least
   pub root-first : 1 ≤ n → First queue n room (entryAt queue n room 1)
@@ -202,17 +200,9 @@ module _ (queue : List ℕ) (n room : ℕ) (S : Sized n room (length queue)) (j 
 
   -- what stands at every other position stays
   made-other : (x : ℕ) → x < 2 * n → (x ≡ j → ⊥) → entryAt (refreshed queue n room j) n room x ≡ entryAt queue n room x
-  made-other x l d = go (decLt x n)
-    where
-      go : Dec (x < n) → entryAt (refreshed queue n room j) n room x ≡ entryAt queue n room x
-      go (yes y) =
-          at-node (refreshed queue n room j) n room x y
-          ∙ ap₂ (λ k s. record { key = k; slot = s }) (other (room + 2 * x) (λ e. d (omega arith)) (λ e. omega arith)) (other (room + 2 * x + 1) (λ e. omega arith) (λ e. d (omega arith)))
-          ∙ sym (at-node queue n room x y)
-      go (no y) =
-          at-leaf (refreshed queue n room j) n room x (omega arith)
-          ∙ ap (λ k. record { key = k; slot = x - n }) (made-keys (x - n) (omega (arith, S .within)))
-          ∙ sym (at-leaf queue n room x (omega arith))
+  made-other x l d = same-entry queue (refreshed queue n room j) n room x
+      (λ y. (other (room + 2 * x) (λ e. d (omega arith)) (λ e. omega arith), other (room + 2 * x + 1) (λ e. omega arith) (λ e. d (omega arith))))
+      (λ y. made-keys (x - n) (omega (arith, S .within)))
 
   made-node : entryAt (refreshed queue n room j) n room j ≡ firstBelow queue n room j
   unfolding refreshed
@@ -226,14 +216,12 @@ module _ (queue : List ℕ) (n room : ℕ) (S : Sized n room (length queue)) (j 
   -- afterwards node i holds the first of its children if it did before, or is j; but the node above j may not
   made-holds : (i : ℕ) → 1 ≤ i → i < n → (i ≡ j / 2 → ⊥) → ((i ≡ j → ⊥) → entryAt queue n room i ≡ firstBelow queue n room i)
       → entryAt (refreshed queue n room j) n room i ≡ firstBelow (refreshed queue n room j) n room i
-  made-holds i p q d h = go (ℕ-discrete i j)
+  made-holds i p q d h = by-cases (ℕ-discrete i j)
+      (λ e. subst (λ y. entryAt (refreshed queue n room j) n room y ≡ firstBelow queue n room y) (sym e) made-node ∙ sym below)
+      (λ e. made-other i (omega arith) e ∙ h e ∙ sym below)
     where
       below : firstBelow (refreshed queue n room j) n room i ≡ firstBelow queue n room i
       below = ap₂ firstOf (made-other (2 * i) (omega arith) (λ e. d (omega arith))) (made-other (2 * i + 1) (omega arith) (λ e. d (omega arith)))
-
-      go : Dec (i ≡ j) → entryAt (refreshed queue n room j) n room i ≡ firstBelow (refreshed queue n room j) n room i
-      go (yes e) = subst (λ y. entryAt (refreshed queue n room j) n room y ≡ firstBelow queue n room y) (sym e) made-node ∙ sym below
-      go (no e) = made-other i (omega arith) e ∙ h e ∙ sym below
 
 -- ---- the store of one node
 
@@ -277,17 +265,9 @@ climb-start queue n room k v S b H = record {
 }
   where
     same : (x : ℕ) → x < 2 * n → (x ≡ n + k → ⊥) → entryAt (set queue k v) n room x ≡ entryAt queue n room x
-    same x l d = go (decLt x n)
-      where
-        go : Dec (x < n) → entryAt (set queue k v) n room x ≡ entryAt queue n room x
-        go (yes y) =
-            at-node (set queue k v) n room x y
-            ∙ ap₂ (λ k s. record { key = k; slot = s }) (getD-set-other queue k (room + 2 * x) v 0 (λ e. omega (arith, S .within))) (getD-set-other queue k (room + 2 * x + 1) v 0 (λ e. omega (arith, S .within)))
-            ∙ sym (at-node queue n room x y)
-        go (no y) =
-            at-leaf (set queue k v) n room x (omega arith)
-            ∙ ap (λ k. record { key = k; slot = x - n }) (getD-set-other queue k (x - n) v 0 (λ e. d (omega arith)))
-            ∙ sym (at-leaf queue n room x (omega arith))
+    same x l d = same-entry queue (set queue k v) n room x
+        (λ y. (getD-set-other queue k (room + 2 * x) v 0 (λ e. omega (arith, S .within)), getD-set-other queue k (room + 2 * x + 1) v 0 (λ e. omega (arith, S .within))))
+        (λ y. getD-set-other queue k (x - n) v 0 (λ e. d (omega arith)))
 
 module _ (queue₀ queue next : List ℕ) (n room x : ℕ) (e : Entry) (C : Climbing queue₀ queue n room x e) (l : 1 < x) (t : Taken) (R : Refreshed queue next n room (x / 2) t) where
   above-in : x / 2 < n
@@ -307,11 +287,7 @@ module _ (queue₀ queue next : List ℕ) (n room x : ℕ) (e : Entry) (C : Clim
   -- where the node is as it was, nothing is left to do
   pub climb-stop : t .changed ≡ false → Tree next n room
   unfolding Tree
-  climb-stop z i p q = go (ℕ-discrete i (x / 2 / 2))
-    where
-      go : Dec (i ≡ x / 2 / 2) → entryAt next n room i ≡ firstBelow next n room i
-      go (no d) = climb-up .but i p q d
-      go (yes y) = subst (λ g. entryAt g n room i ≡ firstBelow g n room i) (sym (R .kept z)) (C .but i p q (λ u. omega arith))
+  climb-stop z i p q = by-cases (ℕ-discrete i (x / 2 / 2)) (λ y. subst (λ g. entryAt g n room i ≡ firstBelow g n room i) (sym (R .kept z)) (C .but i p q (λ u. omega arith))) (climb-up .but i p q)
 
 pub climb-end : (queue₀ queue : List ℕ) (n room x : ℕ) (e : Entry) → x ≤ 1 → Climbing queue₀ queue n room x e → Tree queue n room
 unfolding Tree

@@ -2,7 +2,7 @@
 use mathlib.Core.Path.{_≡_, refl, sym, ap, ap₂, _∙_, subst}
 use mathlib.Core.Bool.{Bool, true, false, _||_}
 use mathlib.Core.List.{List, [], _∷_}
-use Prim.Native.Nat.{ℕ, _+_, _-_, _*_, _≤_, _<_, max}
+use Prim.Native.Nat.{ℕ, _+_, _*_, _≤_, _<_, max}
 use native.Mathlib.Omega.{arith}
 use lib.Dec.{T, leb}
 use lib.ListN.{length, getD, set, length-append}
@@ -62,14 +62,7 @@ module _ {size : ℕ} {u : State} {keys t₀ L K B W : List ℕ} {n m marks : �
 -- buffers that hold a state with one more output hold the state
 unput : {size : ℕ} {s : State} {t₀ L K B E : List ℕ} (k : ℕ) → Rep size (put k s) t₀ L K B E → Rep size s t₀ L K B E
 unfolding put links link slot
-unput k R = record {
-  labelled = R .labelled;
-  linked = R .linked;
-  tabled = R .tabled;
-  tails = R .tails;
-  hole-tails = R .hole-tails;
-  room = R .room;
-}
+unput k R = record { labelled = R .labelled; linked = R .linked; tabled = R .tabled; tails = R .tails; hole-tails = R .hole-tails; room = R .room }
 
 -- ---- the visit of the rules
 
@@ -115,9 +108,6 @@ module _ {o : RunnerConfig} {w h : ℕ} {image t₀ L K B W : List ℕ} {t : Tur
   pub few-turns : t .turns < 2 * (w * h)
   few-turns = turns-few o w h image (t .turns) k (X .chosen .picked)
 
-  slots-fit : t .n ≤ w * h + 1
-  slots-fit = omega (arith, X .carried .slots, moment .ranged .slots)
-
   pub can-put : CanPut (w * h + 1) (t .m) W
   can-put = record { long = X .carried .long; few = omega (arith, X .carried .entries, moment .outputs); small = omega (arith, X .image-fits .small) }
 
@@ -128,8 +118,8 @@ module _ {o : RunnerConfig} {w h : ℕ} {image t₀ L K B W : List ℕ} {t : Tur
   -- what the boundary test asks of the lengths
   pub lengths-fit : (w * h ≡ length L) × (w * h ≤ length K) × (4 * length L ≤ length image) × (w * h ≤ 2000000) × (0 < w)
   lengths-fit =
-      let l = rep-labels-length (going moment .sound) (X .carried .rep) in
-      (sym l, omega (arith, rep-links-length (going moment .sound) (X .carried .rep)), omega (arith, l, X .image-fits .whole), omega (arith, X .image-fits .small), X .image-fits .columns)
+      let l = rep-labels-length (going moment .sound .basic) (X .carried .rep) in
+      (sym l, omega (arith, rep-links-length (going moment .sound .basic) (X .carried .rep)), omega (arith, l, X .image-fits .whole), omega (arith, X .image-fits .small), X .image-fits .columns)
 
   -- a visit that puts the cluster out, or does nothing
   pub put-visited : (b : Bool) → visitAt o w h image (t .turns) k ≡ (if b then put k (queueAt o w h image (t .turns) .now) else queueAt o w h image (t .turns) .now) → marks ≤ t .turns + 1

@@ -1,8 +1,9 @@
 -- Sums and offsets that fit their width.
 use mathlib.Core.Path.{_≡_}
 use Prim.Native.Nat.{ℕ, _+_, _*_, _≤_, _<_}
+use native.Mathlib.Nat.{mul-le-mul-right}
 use native.Mathlib.Omega.{arith}
-use lib.Dec.{T, ltb, lit<}
+use lib.Dec.{T, leb, ltb, lit≤, lit<}
 use mir.Syntax.{w32, w64}
 use mir.Val.{Fits}
 use Rattle.rules.proofs.Fits.{slot-in}
@@ -32,37 +33,19 @@ sum-offset l m = omega arith
 pub slot-kept : (k : ℕ) {m n : ℕ} → m ≡ n → 21 * k + 21 ≤ n → (j : ℕ) → T (ltb j 21) → 21 * k + j < m
 slot-kept k e l j h = rw e (slot-in k l j h)
 
--- the ends of the parts of a work buffer of so many slots fit, and so do their offsets in bytes
-pub thrice-fits : {room : ℕ} → Fits w32 room → Fits w64 (3 * room)
-thrice-fits f = omega arith
+-- the end of part k of a work buffer of so many slots fits, and so does its offset in bytes
+pub part-fits : {room : ℕ} (k : ℕ) → T (leb k 8) → Fits w32 room → Fits w64 (k * room)
+part-fits {room} k h f = omega (arith, mul-le-mul-right room (lit≤ {m = k} {n = 8} h))
 
-pub five-fits : {room : ℕ} → Fits w32 room → Fits w64 (5 * room)
-five-fits f = omega arith
+pub part-offset : {room : ℕ} (k : ℕ) → T (leb k 8) → Fits w32 room → Fits w64 (k * room * 4)
+part-offset {room} k h f = omega (arith, mul-le-mul-right room (lit≤ {m = k} {n = 8} h))
 
-pub six-fits : {room : ℕ} → Fits w32 room → Fits w64 (6 * room)
-six-fits f = omega arith
+-- the ends are in order, and in the buffer
+pub parts-rise : (j k : ℕ) → T (leb j k) → (room : ℕ) → j * room ≤ k * room
+parts-rise j k h room = mul-le-mul-right room (lit≤ {m = j} {n = k} h)
 
-pub thrice-offset : {room : ℕ} → Fits w32 room → Fits w64 (3 * room * 4)
-thrice-offset f = omega arith
-
-pub five-offset : {room : ℕ} → Fits w32 room → Fits w64 (5 * room * 4)
-five-offset f = omega arith
-
--- they are in order, and in the buffer
-pub three-five : (room : ℕ) → 3 * room ≤ 5 * room
-three-five room = omega arith
-
-pub five-six : (room : ℕ) → 5 * room ≤ 6 * room
-five-six room = omega arith
-
-pub thrice-in : (room : ℕ) {n : ℕ} → n ≡ 8 * room → 3 * room ≤ n
-thrice-in room e = omega arith
-
-pub five-in : (room : ℕ) {n : ℕ} → n ≡ 8 * room → 5 * room ≤ n
-five-in room e = omega arith
-
-pub six-in : (room : ℕ) {n : ℕ} → n ≡ 8 * room → 6 * room ≤ n
-six-in room e = omega arith
+pub part-in : (k : ℕ) → T (leb k 8) → (room : ℕ) {n : ℕ} → n ≡ 8 * room → k * room ≤ n
+part-in k h room e = omega (arith, parts-rise k 8 h room)
 
 -- a buffer that is as long as one of the same length
 pub same-long : {l m n r : ℕ} → l ≡ m → m ≡ r → n ≡ r → l ≡ n
@@ -86,18 +69,6 @@ room-fits l = omega arith
 
 pub room-small : {n : ℕ} → n ≤ 1048576 → n + 1 ≤ 2000000
 room-small l = omega arith
-
-pub room-thrice : {n : ℕ} → n ≤ 1048576 → Fits w64 (3 * (n + 1))
-room-thrice l = omega arith
-
-pub room-five : {n : ℕ} → n ≤ 1048576 → Fits w64 (5 * (n + 1))
-room-five l = omega arith
-
-pub room-eight : {n : ℕ} → n ≤ 1048576 → Fits w64 (8 * (n + 1))
-room-eight l = omega arith
-
-pub room-offset : {n : ℕ} → n ≤ 1048576 → Fits w64 (3 * (n + 1) * 4)
-room-offset l = omega arith
 
 -- and its work buffer
 pub eight-in : (n : ℕ) {l : ℕ} → 8 * n + 8 ≤ l → 8 * (n + 1) ≤ l

@@ -4,11 +4,11 @@ use mathlib.Core.Bool.{Bool, false, not, _||_}
 use mathlib.Core.List.{List, [], _∷_, _++_}
 use Prim.Native.Nat.{ℕ, _+_, _*_, _≤_, _<_}
 use native.Mathlib.Omega.{arith}
-use borrow.Author.Tests.{leb-false}
+use borrow.Author.Tests.{leb-false, ltb-false}
 use lib.Dec.{leb, ltb, eqb}
 use Rattle.rules.specs.Base.{if_then_else_}
 use Rattle.rules.specs.Refusals.{Check, when, firstFailed, sizeChecks, limit, tableLength, outputsLength, badCounts, rowAnswer, storeAnswer}
-use Rattle.rules.proofs.Accepted.{passed, neither, not-below, equal, failed-later}
+use Rattle.rules.proofs.Accepted.{passed, neither, equal, failed-later}
 use Rattle.sheet.specs.Lengths.{CanStore}
 
 -- picture is a length
@@ -18,7 +18,7 @@ row-accepted w h picture y e =
     let c2 = passed 1 (eqb w 0 || eqb h 0) _ e in
     let c3 = passed 2 (ltb limit (w * h)) _ (c2 .1) in
     let c6 = passed 5 (not (eqb picture (4 * (w * h)))) _ (c3 .1) in
-    (not-below limit (w * h) (c3 .0), equal picture (4 * (w * h)) (c6 .0), leb-false h y (passed 10 (leb h y) 0 (c6 .1) .0))
+    (ltb-false limit (w * h) (c3 .0), equal picture (4 * (w * h)) (c6 .0), leb-false h y (passed 10 (leb h y) 0 (c6 .1) .0))
 
 -- labels, links, table and outputs are lengths
 module _ (w h labels links table outputs n m : ℕ) where
@@ -36,16 +36,16 @@ module _ (w h labels links table outputs n m : ℕ) where
       let l2 = neither _ (ltb table (tableLength (w * h))) (l3 .0) in
       let l1 = neither (ltb labels (w * h)) (ltb links (w * h)) (l2 .0) in
       let l0 = neither (ltb (w * h + 1) n) (ltb (2 * (w * h)) m) (l4 .1) in
-      let slots = not-below (w * h + 1) n (l0 .0) in
-      let entries = not-below (2 * (w * h)) m (l0 .1) in (
+      let slots = ltb-false (w * h + 1) n (l0 .0) in
+      let entries = ltb-false (2 * (w * h)) m (l0 .1) in (
         record {
-          small = not-below limit (w * h) (c3 .0);
+          small = ltb-false limit (w * h) (c3 .0);
           slots = slots;
           entries = entries;
-          labels-fit = not-below labels (w * h) (l1 .0);
-          links-fit = not-below links (w * h) (l1 .1);
-          table-fits = omega (arith, not-below table (tableLength (w * h)) (l2 .1));
-          outputs-fit = omega (arith, not-below outputs (outputsLength (w * h)) (l3 .1));
+          labels-fit = ltb-false labels (w * h) (l1 .0);
+          links-fit = ltb-false links (w * h) (l1 .1);
+          table-fits = omega (arith, ltb-false table (tableLength (w * h)) (l2 .1));
+          outputs-fit = omega (arith, ltb-false outputs (outputsLength (w * h)) (l3 .1));
         },
         c5 .1,
       )

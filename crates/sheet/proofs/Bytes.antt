@@ -1,11 +1,11 @@
 -- The numbers of a stored sheet and their bytes: where they lie, and whether one of them takes more than two bytes. Assumes nothing.
 use mathlib.Core.Path.{_≡_, refl, sym, ap, _∙_}
-use mathlib.Core.Bool.{Bool, true, false, not, _&&_, _||_}
+use mathlib.Core.Bool.{Bool, true, false, not, _&&_, _||_, and-true}
 use mathlib.Core.List.{List, [], _∷_, _++_, map, append-nil}
 use Prim.Native.Nat.{ℕ, zero, suc, _+_, _*_, _≤_, _<_}
 use native.Mathlib.Numerals.{add-one}
 use native.Mathlib.Omega.{arith}
-use borrow.Author.Tests.{leb-true, leb-false, lt-ltb, le-ltb}
+use borrow.Author.Tests.{leb-true, leb-false, lt-ltb, le-ltb, ltb-false}
 use lib.Dec.{leb, ltb}
 use lib.ListN.{length, getD, set, take, length-append, length-take, drop-of-length-le}
 use lib.Seq.{sets, sets-eq, append-snoc, take-suc, getD-take}
@@ -13,7 +13,7 @@ use Rattle.rules.specs.Base.{upTo, concat, noneAbove}
 use Rattle.rules.specs.Layout.{firstPixelAt, pixelCountAt}
 use Rattle.rules.specs.Paint.{slotNumber}
 use Rattle.rules.specs.Stored.{isLarge, twoBytes, storedBytes, pixelNumbers, slotNumbers, storedNumbers}
-use Rattle.rules.proofs.Accepted.{neither, not-below}
+use Rattle.rules.proofs.Accepted.{neither}
 use Rattle.rules.proofs.Layouts.{concat-snoc, spread, spread-at}
 
 -- ---- bytes
@@ -44,11 +44,7 @@ sets-whole l xs e = sets-eq xs l 0 (omega arith) ∙ ap (λ r. xs ++ r) (drop-of
 -- ---- numbers that take more than two bytes
 
 not-leb : (x a : ℕ) → not (leb x a) ≡ ltb a x
-not-leb x a = go (leb x a) refl
-  where
-    go : (b : Bool) → leb x a ≡ b → not b ≡ ltb a x
-    go true e = sym (le-ltb a x (leb-true x a e))
-    go false e = sym (lt-ltb a x (leb-false x a e))
+not-leb x a = elim (leb x a) as (λ b. leb x a ≡ b → not b ≡ ltb a x) [ true ↦ λ e. sym (le-ltb a x (leb-true x a e)) | false ↦ λ e. sym (lt-ltb a x (leb-false x a e)) ] refl
 
 large-append : (xs ys : List ℕ) → isLarge (xs ++ ys) ≡ isLarge xs || isLarge ys
 unfolding isLarge
@@ -62,10 +58,6 @@ large-append (x ∷ xs) ys = by (leb x 65535) (large-append xs ys)
 large-one : (x : ℕ) → isLarge (x ∷ []) ≡ ltb 65535 x
 unfolding isLarge
 large-one x = ap not (and-true (leb x 65535)) ∙ not-leb x 65535
-  where
-    and-true : (b : Bool) → b && true ≡ b
-    and-true true = refl
-    and-true false = refl
 
 large-more : (xs : List ℕ) (x : ℕ) → isLarge (xs ++ (x ∷ [])) ≡ isLarge xs || ltb 65535 x
 large-more xs x = large-append xs (x ∷ []) ∙ ap (λ b. isLarge xs || b) (large-one x)
@@ -73,7 +65,7 @@ large-more xs x = large-append xs (x ∷ []) ∙ ap (λ b. isLarge xs || b) (lar
 -- each of the numbers is small
 small-at : (xs : List ℕ) → isLarge xs ≡ false → (i : ℕ) → i < length xs → getD xs i 0 ≤ 65535
 small-at [] e i l = absurd (omega arith)
-small-at (x ∷ xs) e zero l = not-below 65535 x (sym (large-one x) ∙ neither _ (isLarge xs) (sym (large-append (x ∷ []) xs) ∙ e) .0)
+small-at (x ∷ xs) e zero l = ltb-false 65535 x (sym (large-one x) ∙ neither _ (isLarge xs) (sym (large-append (x ∷ []) xs) ∙ e) .0)
 small-at (x ∷ xs) e (suc i) l = small-at xs (neither (isLarge (x ∷ [])) _ (sym (large-append (x ∷ []) xs) ∙ e) .1) i (omega arith)
 
 -- ---- two numbers for each of 0 .. n - 1, as of pixels and of slots

@@ -4,8 +4,5 @@ use borrow.Author.Needs.{needs}
 use Rattle.color.proofs.floor.Statement.{statement}
 use Rattle.color.proofs.floor.Tie as tie
 
-cast-result : tie.Need-cast-result
-cast-result c = record { fits = div-lt-iff-lt-mul (c .pre .0) .1 (omega arith) }
-
 pub floor-spec : {M : Type 1} → statement M
-floor-spec = tie.close (tie.spec (search needs) cast-result (search needs))
+floor-spec = tie.close (tie.spec (search needs) (λ c. record { fits = div-lt-iff-lt-mul (c .pre .0) .1 (omega arith) }) (search needs))

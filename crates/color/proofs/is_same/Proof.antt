@@ -15,9 +15,6 @@ unfolding isSame
 none-like s t none = refl
 none-like s t (some x) = refl
 
-returns : tie.Need-returns
-returns c = rw (c .enum-told .given .1) (sym (none-like _ _ _))
-
 returns-2 : tie.Need-returns-2
 unfolding isSame
 returns-2 c = rw (c .before .before .before .a .given .1, c .enum-told2 .given .1)
@@ -31,4 +28,4 @@ returns-3 c =
 pub is-same-spec : {M : Type 1} → statement M
 is-same-spec =
     tie.close
-    (tie.spec (search needs) (search needs) returns (search needs) (search needs) returns-2 (search needs) returns-3)
+    (tie.spec (search needs) (search needs) (λ c. rw (c .enum-told .given .1) (sym (none-like _ _ _))) (search needs) (search needs) returns-2 (search needs) returns-3)

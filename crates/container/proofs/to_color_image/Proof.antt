@@ -3,12 +3,12 @@ use mathlib.Core.Bool.{_||_}
 use Prim.Native.Nat.{ℕ, _+_, _*_}
 use native.Mathlib.Omega.{arith}
 use borrow.Author.Needs.{needs}
-use borrow.Author.Tests.{ne-eqb, eqb-true, not-false}
+use borrow.Author.Tests.{ne-eqb, eqb-true, not-false, ltb-false}
 use lib.Dec.{eqb, ltb}
 use lib.ListN.{length}
 use Rattle.rules.specs.Refusals.{limit, tableLength, outputsLength, badCounts, notFourEach, paintAnswer}
 use Rattle.rules.specs.Calls.{paintCall}
-use Rattle.rules.proofs.Accepted.{passed, neither, not-below, good-size}
+use Rattle.rules.proofs.Accepted.{passed, neither, good-size}
 use Rattle.container.specs.Lengths.{CanPaint}
 use Rattle.container.proofs.to_color_image.Statement.{statement}
 use Rattle.container.proofs.to_color_image.Tie as tie
@@ -27,10 +27,10 @@ can-paint w h links table outputs picture n m e =
     let k = neither (ltb (w * h + 1) n) (ltb (2 * (w * h)) m) (l3 .1) in
     record {
       some = good-size w h (c2 .0) (c3 .0) .some;
-      small = not-below limit (w * h) (c3 .0);
-      links-fit = not-below links (w * h) (l1 .0);
-      table-fits = omega (arith, not-below table (tableLength (w * h)) (l1 .1), not-below (w * h + 1) n (k .0));
-      outputs-fit = omega (arith, not-below outputs (outputsLength (w * h)) (l2 .1), not-below (2 * (w * h)) m (k .1));
+      small = ltb-false limit (w * h) (c3 .0);
+      links-fit = ltb-false links (w * h) (l1 .0);
+      table-fits = omega (arith, ltb-false table (tableLength (w * h)) (l1 .1), ltb-false (w * h + 1) n (k .0));
+      outputs-fit = omega (arith, ltb-false outputs (outputsLength (w * h)) (l2 .1), ltb-false (2 * (w * h)) m (k .1));
       picture-fits = eqb-true _ _ (not-false _ (c6 .0));
     }
 
@@ -42,15 +42,11 @@ accepted : (c : tie.Else1)
     → (let a = c .before .before .before .before .before .before .args in paintAnswer (a .w) (a .h) (length (a .links .now)) (length (a .table .now)) (length (a .outputs .now)) (length (a .picture .now)) (a .n) (a .m) ≡ 0)
 accepted c = sym (c .before .paint-answer .ensures) ∙ c .if1 .left
 
-mul-painting : tie.Need-mul-painting
-mul-painting c = omega (arith, can-paint _ _ _ _ _ _ _ _ (accepted c) .small)
-
-painting-requires : tie.Need-painting-requires
-painting-requires c κs = can-paint _ _ _ _ _ _ _ _ (accepted (c .before))
-
 returns-2 : tie.Need-returns-2
 unfolding paintCall
 returns-2 c = rw (accepted (c .before .before .before .before)) (c .before .before .painting .ensures)
 
 pub to-color-image-spec : {M : Type 1} → statement M
-to-color-image-spec = tie.close (tie.spec (search needs) returns mul-painting painting-requires (search needs) returns-2)
+to-color-image-spec =
+    tie.close
+    (tie.spec (search needs) returns (λ c. omega (arith, can-paint _ _ _ _ _ _ _ _ (accepted c) .small)) (λ c κs. can-paint _ _ _ _ _ _ _ _ (accepted (c .before))) (search needs) returns-2)

@@ -17,9 +17,6 @@ passed : (c : tie.Else1)
     → (let a = c .before .before .before .before .before .before .before .before .args in runAnswer (a .w) (a .h) (configOf (a .o)) (length (a .image .now)) (length (a .labels .now)) (length (a .links .now)) (length (a .table .now)) (length (a .outputs .now)) (length (a .work .now)) ≡ 0)
 passed c = sym (c .before .run-answer .ensures) ∙ c .if1 .left
 
-accepted-requires : tie.Need-accepted-requires
-accepted-requires c κs = run-accepted _ _ _ _ _ _ _ _ _ (passed (c .before .before .before .before .before))
-
 returns-2 : tie.Need-returns-2
 unfolding runCall runNumber
 returns-2 c = rw (passed (c .before .before .before .before .before .before .before .before .before .before .before .before .before .before .before .before)) (c .before .before .before .before .before .before .before .before .before .before .accepted .ensures)
@@ -30,7 +27,7 @@ run-spec =
     (tie.spec
     (λ c κs. tt)
     returns
-    accepted-requires
+    (λ c κs. run-accepted _ _ _ _ _ _ _ _ _ (passed (c .before .before .before .before .before)))
     (λ c. c .before .before .before .before .before .before .before .before .before .before .accepted .kept .1 .1 .1 .1 .0)
     (λ c. c .before .before .before .before .before .before .before .before .before .before .accepted .kept .1 .1 .1 .1 .1 .0)
     (λ c. c .before .before .before .before .before .before .before .before .before .before .accepted .kept .1 .1 .1 .1 .1 .1 .0)

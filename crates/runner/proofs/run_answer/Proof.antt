@@ -1,4 +1,4 @@
-use mathlib.Core.Path.{_≡_, refl, sym, _∙_}
+use mathlib.Core.Path.{_≡_, sym, _∙_}
 use mathlib.Core.Bool.{Bool, false}
 use Prim.Native.Nat.{_*_, _≤_}
 use native.Mathlib.Omega.{arith}
@@ -36,15 +36,9 @@ sized-zero c = sym (c .before .size-answer .ensures) ∙ c .if2 .left
 small : (c : tie.Else2) → (let a = c .before .before .before .before .before .args in a .w * a .h ≤ limit)
 small c = let a = c .before .before .before .before .before .args in sized-small (a .w) (a .h) (sized-zero c)
 
-mul-if3 : tie.Need-mul-if3
-mul-if3 c = omega (arith, c .area .ensures, small (c .before))
-
 returns-3 : tie.Need-returns-3
 unfolding runAnswer
 returns-3 c = let e = c .before .before in rw (passed-shift (e .before .before), sized, sized-zero e, ← c .before .area .ensures, ne-eqb _ _ (c .if3 .taken))
-
-short-requires : tie.Need-short-requires
-short-requires c κs = omega (arith, c .before .area .ensures, small (c .before .before))
 
 returns-4 : tie.Need-returns-4
 unfolding runAnswer
@@ -59,4 +53,9 @@ returns-5 c =
     rw (passed-shift (e .before .before), sized, sized-zero e, ← c .before .before .before .area .ensures, eq-eqb _ _ (c .before .before .if3 .left), sym (c .before .short .ensures) ∙ c .if4 .left)
 
 pub run-answer-spec : {M : Type 1} → statement M
-run-answer-spec = tie.close (tie.spec (search needs) returns (search needs) returns-2 (search needs) mul-if3 returns-3 short-requires returns-4 returns-5)
+run-answer-spec =
+    tie.close
+    (tie.spec
+    (search needs) returns (search needs) returns-2 (search needs) (λ c. omega (arith, c .area .ensures, small (c .before))) returns-3
+    (λ c κs. omega (arith, c .before .area .ensures, small (c .before .before)))
+    returns-4 returns-5)

@@ -1,4 +1,4 @@
-use mathlib.Core.Path.{_≡_, refl, sym, _∙_}
+use mathlib.Core.Path.{_≡_, sym, _∙_}
 use Prim.Native.Nat.{_*_, _≤_}
 use native.Mathlib.Omega.{arith}
 use borrow.Author.Needs.{needs}
@@ -19,9 +19,6 @@ sized-zero c = sym (c .before .size-answer .ensures) ∙ c .if1 .left
 small : (c : tie.Else1) → (let a = c .before .before .before .args in a .w * a .h ≤ limit)
 small c = sized-small _ _ (sized-zero c)
 
-mul-if2 : tie.Need-mul-if2
-mul-if2 c = omega (arith, c .area .ensures, small (c .before))
-
 returns-2 : tie.Need-returns-2
 unfolding rowAnswer
 returns-2 c = rw (sized, sized-zero (c .before .before), ← c .before .area .ensures, ne-eqb _ _ (c .if2 .taken))
@@ -39,4 +36,4 @@ returns-4 c =
     rw (sized, sized-zero (s .before), ← s .area .ensures, eq-eqb _ _ (c .before .if2 .left), lt-leb _ _ (c .if3 .left))
 
 pub row-check-spec : {M : Type 1} → statement M
-row-check-spec = tie.close (tie.spec (search needs) returns (search needs) mul-if2 returns-2 returns-3 returns-4)
+row-check-spec = tie.close (tie.spec (search needs) returns (search needs) (λ c. omega (arith, c .area .ensures, small (c .before))) returns-2 returns-3 returns-4)

@@ -19,12 +19,9 @@ passed : (c : tie.Else1)
     → (let a = c .before .before .before .before .before .before .before .args in let numbers = storedNumbers (a .w) (a .h) (a .labels .now) (a .links .now) (a .table .now) (a .outputs .now) (a .n) (a .m) in storeAnswer (a .w) (a .h) (length (a .labels .now)) (length (a .links .now)) (length (a .table .now)) (length (a .outputs .now)) (length (a .destination .now)) (a .n) (a .m) (isLarge numbers) (2 * length numbers) ≡ 0)
 passed c = sym (c .before .answer .ensures) ∙ c .if1 .left
 
-write-requires : tie.Need-write-requires
-write-requires c κs = store-accepted _ _ _ _ _ _ _ _ _ _ _ (passed (c .before))
-
 returns-2 : tie.Need-returns-2
 unfolding storeCall
 returns-2 c = rw (passed (c .before .before .before .before), c .before .before .write .ensures)
 
 pub store-spec : {M : Type 1} → statement M
-store-spec = tie.close (tie.spec (search needs) returns write-requires (search needs) returns-2)
+store-spec = tie.close (tie.spec (search needs) returns (λ c κs. store-accepted _ _ _ _ _ _ _ _ _ _ _ (passed (c .before))) (search needs) returns-2)

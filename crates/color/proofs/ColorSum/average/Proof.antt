@@ -18,9 +18,6 @@ passed s e h =
     let r = and-eq-true-iff _ _ .0 (g .0) in
     (pos-of-ne-zero (eqb-false _ _ (not-true _ (r .0))), leb-true _ _ (r .1), leb-true _ _ (g .1), leb-true _ _ (b .1), leb-true _ _ (a .1))
 
-floor-requires : tie.Need-floor-requires
-floor-requires c κs = let p = passed _ (c .before .has-average .ensures) (c .if1 .taken) in search needs
-
 floor-requires-2 : tie.Need-floor-requires-2
 floor-requires-2 c κs = let s = c .before in let p = passed _ (s .before .has-average .ensures) (s .if1 .taken) in search needs
 
@@ -43,4 +40,4 @@ returns-2 c = rw (sym (c .before .has-average .ensures) ∙ c .if1 .left)
 pub average-spec : {M : Type 1} → statement M
 average-spec =
     tie.close
-    (tie.spec (search needs) floor-requires floor-requires-2 floor-requires-3 floor-requires-4 returns returns-2)
+    (tie.spec (search needs) (λ c κs. let p = passed _ (c .before .has-average .ensures) (c .if1 .taken) in search needs) floor-requires-2 floor-requires-3 floor-requires-4 returns returns-2)

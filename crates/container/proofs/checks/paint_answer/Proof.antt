@@ -1,4 +1,4 @@
-use mathlib.Core.Path.{_≡_, refl, sym, _∙_}
+use mathlib.Core.Path.{_≡_, sym, _∙_}
 use Prim.Native.Nat.{_*_, _≤_}
 use native.Mathlib.Omega.{arith}
 use borrow.Author.Needs.{needs}
@@ -19,17 +19,11 @@ sized-zero c = sym (c .before .size-answer .ensures) ∙ c .if1 .left
 small : (c : tie.Else1) → (let a = c .before .before .args in a .w * a .h ≤ limit)
 small c = sized-small _ _ (sized-zero c)
 
-short-requires : tie.Need-short-requires
-short-requires c κs = omega (arith, c .area .ensures, small (c .before))
-
 returns-2 : tie.Need-returns-2
 unfolding paintAnswer
 returns-2 c =
     let s = c .before .before in
     rw (sized, sized-zero (s .before), ← s .area .ensures, sym (c .before .short .ensures) ∙ c .if2 .taken)
-
-mul-if3 : tie.Need-mul-if3
-mul-if3 c = let s = c .before .before in omega (arith, s .area .ensures, small (s .before))
 
 returns-3 : tie.Need-returns-3
 unfolding paintAnswer
@@ -44,4 +38,9 @@ returns-4 c =
     rw (sized, sized-zero (s .before), ← s .area .ensures, sym (c .before .before .short .ensures) ∙ c .before .if2 .left, eq-eqb _ _ (c .if3 .left))
 
 pub paint-answer-spec : {M : Type 1} → statement M
-paint-answer-spec = tie.close (tie.spec (search needs) returns (search needs) short-requires returns-2 mul-if3 returns-3 returns-4)
+paint-answer-spec =
+    tie.close
+    (tie.spec
+    (search needs) returns (search needs) (λ c κs. omega (arith, c .area .ensures, small (c .before))) returns-2
+    (λ c. let s = c .before .before in omega (arith, s .area .ensures, small (s .before)))
+    returns-3 returns-4)

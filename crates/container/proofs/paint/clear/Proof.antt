@@ -18,9 +18,6 @@ loop-again c =
     let l = c .before .loop in
     (simp length-set (omega (arith, c .loop-test .taken)), simp length-set (l .inv .1), zeros-further (l .picture) (l .i) (c .loop-test .taken) (l .inv .2))
 
-returns : tie.Need-returns Inv-loop μ-loop
-returns c = let l = c .before .loop in zeros-all _ _ _ (c .loop-test .left) (l .inv .1) (l .inv .2)
-
 pub clear-spec : {M : Type 1} → statement M
 clear-spec =
     tie.close
@@ -33,4 +30,4 @@ clear-spec =
     (λ c. simp length-set (omega (arith, c .loop-test .taken)))
     loop-again
     (λ c. c .before .loop .inv .1)
-    returns)
+    (λ c. let l = c .before .loop in zeros-all _ _ _ (c .loop-test .left) (l .inv .1) (l .inv .2)))

@@ -25,9 +25,6 @@ loop-again c =
     let t = c .before .before .before in
     (omega (arith, t .before .loop .inv .0), rw (entries-turn _ _ _ _ _ _ (t .loop-test .taken), ← c .before .entry-answer .ensures, eq-eqb _ 0 (c .if1 .left)) at (t .before .loop .inv .1))
 
-returns-2 : tie.Need-returns-2 Inv-loop μ-loop
-returns-2 c = rw (entries-none _ _ _ _ _ _ (c .loop-test .left)) at (c .before .loop .inv .1)
-
 pub entries-answer-spec : {M : Type 1} → statement M
 entries-answer-spec =
     tie.close
@@ -44,4 +41,4 @@ entries-answer-spec =
     (omega arith)
     (omega arith)
     loop-again
-    returns-2)
+    (λ c. rw (entries-none _ _ _ _ _ _ (c .loop-test .left)) at (c .before .loop .inv .1)))

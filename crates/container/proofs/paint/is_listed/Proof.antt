@@ -23,14 +23,8 @@ passes c =
     let n = neither (eqb at 0) (ltb (c .before .before .before .args .size) at) (c .if1 .left) in
     (omega (arith, eqb-false at 0 (n .0)), ltb-false _ _ (n .1))
 
-returns : tie.Need-returns Inv-loop μ-loop
-returns c = rw (reads-turn _ _ _ _ (c .before .loop-test .taken), c .if1 .taken) at (c .before .before .loop .inv)
-
 loop-again : tie.Need-loop-again Inv-loop μ-loop
 loop-again c = rw (reads-turn _ _ _ _ (c .before .before .loop-test .taken), c .before .if1 .left) at (c .before .before .before .loop .inv)
-
-returns-2 : tie.Need-returns-2 Inv-loop μ-loop
-returns-2 c = rw (reads-none _ _ _ _ (c .loop-test .left)) at (c .before .loop .inv)
 
 pub is-listed-spec : {M : Type 1} → statement M
 is-listed-spec =
@@ -39,7 +33,7 @@ is-listed-spec =
     Inv-loop
     μ-loop
     (λ c. refl)
-    returns
+    (λ c. rw (reads-turn _ _ _ _ (c .before .loop-test .taken), c .if1 .taken) at (c .before .before .loop .inv))
     (λ c. passes c .0)
     (λ c. omega (arith, passes c .1))
     (λ c. omega (arith, passes c .1))
@@ -47,4 +41,4 @@ is-listed-spec =
     (omega arith)
     (omega arith)
     loop-again
-    returns-2)
+    (λ c. rw (reads-none _ _ _ _ (c .loop-test .left)) at (c .before .loop .inv)))

@@ -88,9 +88,6 @@ loop-again c =
       rw (p .paint-slot .ensures .1) (rw (back-turn _ _ _ (t .loop-test .taken)) at (v .3)),
     )
 
-returns : tie.Need-returns Inv-loop μ-loop
-returns c = rw (back-none _ _ _ (c .loop-test .left)) at (c .before .loop .inv .3)
-
 pub paint-entries-spec : {M : Type 1} → statement M
 paint-entries-spec =
     tie.close
@@ -111,4 +108,4 @@ paint-entries-spec =
     (omega arith)
     loop-again
     (λ c. c .before .loop .inv .1)
-    returns)
+    (λ c. rw (back-none _ _ _ (c .loop-test .left)) at (c .before .loop .inv .3)))

@@ -14,21 +14,6 @@ returns c = λ e. never e
 last : (c : tie.Else1) → (let a = c .before .before .before .before .args in getD (a .outputs .now) (a .m - 1) 0 < a .n)
 last c = let s = c .before .before .before .before in s .pre .5 (s .args .m - 1) (omega (arith, c .if1 .left)) .0
 
-cast-if2 : tie.Need-cast-if2
-cast-if2 c = omega (arith, last (c .before), c .before .before .before .before .before .fits .n)
-
-mul-if2 : tie.Need-mul-if2
-mul-if2 c = omega (arith, last (c .before), c .before .before .before .before .before .fits .n)
-
-add-if2 : tie.Need-add-if2
-add-if2 c = omega (arith, last (c .before), c .before .before .before .before .before .fits .n)
-
-mul-if2-2 : tie.Need-mul-if2-2
-mul-if2-2 c = omega (arith, last (c .before), c .before .before .before .before .before .fits .n)
-
-shared-slice-read-if2 : tie.Need-shared-slice-read-if2
-shared-slice-read-if2 c = omega (arith, last (c .before .before), c .before .before .before .before .before .before .pre .3)
-
 returns-2 : tie.Need-returns-2
 returns-2 c = λ e. never e
 
@@ -40,4 +25,13 @@ unfolding slotNumber
 returns-3 c = λ e. record { some = omega (arith, c .before .before .before .before .if1 .left); count = c .before .if2 .left; leads = c .is-all .ensures e }
 
 pub covers-spec : {M : Type 1} → statement M
-covers-spec = tie.close (tie.spec returns (search needs) (search needs) (search needs) (search needs) cast-if2 mul-if2 add-if2 mul-if2-2 shared-slice-read-if2 returns-2 is-all-requires returns-3)
+covers-spec =
+    tie.close
+    (tie.spec
+    returns (search needs) (search needs) (search needs) (search needs)
+    (λ c. omega (arith, last (c .before), c .before .before .before .before .before .fits .n))
+    (λ c. omega (arith, last (c .before), c .before .before .before .before .before .fits .n))
+    (λ c. omega (arith, last (c .before), c .before .before .before .before .before .fits .n))
+    (λ c. omega (arith, last (c .before), c .before .before .before .before .before .fits .n))
+    (λ c. omega (arith, last (c .before .before), c .before .before .before .before .before .before .pre .3))
+    returns-2 is-all-requires returns-3)

@@ -1,4 +1,4 @@
-use Prim.Native.Nat.{ℕ, _-_, _<_}
+use Prim.Native.Nat.{ℕ, _<_}
 use native.Mathlib.Omega.{arith}
 use borrow.Author.Needs.{needs}
 use borrow.Author.Tests.{not-false}
@@ -26,9 +26,6 @@ quick-answer-requires c κs = let s = c .before .before .before .before .before 
 whole : (c : tie.Else2) → (let a = c .before .before .before .before .before .before .before .before .args in Whole (a .size) (a .links .now) (a .table .now) (a .outputs .now) (a .m))
 whole c = c .before .covers .ensures (not-false _ (c .if2 .left))
 
-sub-quick-answer : tie.Need-sub-quick-answer
-sub-quick-answer c = omega (arith, whole c .some)
-
 quick-answer-requires-2 : tie.Need-quick-answer-requires-2
 quick-answer-requires-2 c κs =
     let s = c .before .before .before .before .before .before .before .before .pre in
@@ -41,4 +38,4 @@ pub painting-spec : {M : Type 1} → statement M
 painting-spec =
     tie.close
     (tie.spec (search needs) (search needs) over-zeros-requires (search needs) (λ c. c .before .before .over-zeros .ensures) covers-requires quick-answer-requires (search needs) (search needs)
-    (λ c. c .before .before .over-zeros2 .ensures) sub-quick-answer quick-answer-requires-2 over-last-requires (search needs) (λ c. c .before .before .over-last .ensures))
+    (λ c. c .before .before .over-zeros2 .ensures) (λ c. omega (arith, whole c .some)) quick-answer-requires-2 over-last-requires (search needs) (λ c. c .before .before .over-last .ensures))

@@ -14,17 +14,10 @@ lists-pass-requires c κs = let s = c .before .before .before .pre in (s .0, s .
 
 -- every list passes: those before rest were read, the others are known to
 lists : (c : tie.Then1) → (let a = c .before .before .before .before .before .args in (i : ℕ) → i < a .m → ListPasses (a .size) (a .links .now) (a .table .now) (getD (a .outputs .now) i 0))
-lists c i l = go (decLt i (s .args .rest))
+lists c i l = elim (decLt i (s .args .rest)) [ yes b ↦ c .before .lists-pass .ensures (c .if1 .taken) i b | no b ↦ s .pre .5 i (omega arith) l ]
   where
     s : tie.Start
     s = c .before .before .before .before .before
 
-    go : Dec (i < s .args .rest) → ListPasses (s .args .size) (s .args .links .now) (s .args .table .now) (getD (s .args .outputs .now) i 0)
-    go (yes b) = c .before .lists-pass .ensures (c .if1 .taken) i b
-    go (no b) = s .pre .5 i (omega arith) l
-
-returns : tie.Need-returns
-returns c = sym (quick-zero _ _ _ _ _ _ (c .before .before .before .before .before .pre .4) (lists c))
-
 pub quick-answer-spec : {M : Type 1} → statement M
-quick-answer-spec = tie.close (tie.spec lists-pass-requires returns (search needs) (search needs))
+quick-answer-spec = tie.close (tie.spec lists-pass-requires (λ c. sym (quick-zero _ _ _ _ _ _ (c .before .before .before .before .before .pre .4) (lists c))) (search needs) (search needs))

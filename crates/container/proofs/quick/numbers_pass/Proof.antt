@@ -17,9 +17,6 @@ abbrev μ-loop : tie.MeasureT-loop
 loop-again : tie.Need-loop-again Inv-loop μ-loop
 loop-again c = (omega arith, below-more _ _ (c .before .before .before .before .loop .inv .1) (c .before .slot-passes .ensures (not-false _ (c .if1 .left))))
 
-returns-2 : tie.Need-returns-2 Inv-loop μ-loop
-returns-2 c t i l = c .before .loop .inv .1 i (omega arith)
-
 pub numbers-pass-spec : {M : Type 1} → statement M
 numbers-pass-spec =
     tie.close
@@ -35,4 +32,4 @@ numbers-pass-spec =
     (omega arith)
     (omega arith)
     loop-again
-    returns-2)
+    (λ c t i l. c .before .loop .inv .1 i (omega arith)))

@@ -13,8 +13,9 @@ Inv-loop buffer₀ n k i₀ buffer i = (length buffer ≡ length buffer₀) × (
 abbrev μ-loop : tie.MeasureT-loop
 μ-loop buffer₀ n k i₀ buffer i = k - i
 
-loop-again : tie.Need-loop-again Inv-loop μ-loop
-loop-again c = simp length-set (search needs)
-
 pub filled-spec : {M : Type 1} → statement M
-filled-spec = tie.close (tie.spec Inv-loop μ-loop (search needs) (λ c. omega arith) (search needs) (λ c. omega arith) (λ c. omega arith) (λ c. omega arith) (λ c. omega arith) loop-again (λ c. omega arith) (λ c. omega arith) (λ c. omega arith) (search needs))
+filled-spec =
+    tie.close
+    (tie.spec
+    Inv-loop μ-loop (search needs) (λ c. omega arith) (search needs) (λ c. omega arith) (λ c. omega arith) (λ c. omega arith) (λ c. omega arith)
+    (λ c. simp length-set (search needs)) (λ c. omega arith) (λ c. omega arith) (λ c. omega arith) (search needs))

@@ -13,11 +13,9 @@ Inv-loop e buffer numbers₀ i₀ numbers i = length numbers ≡ length numbers�
 abbrev μ-loop : tie.MeasureT-loop
 μ-loop e buffer numbers₀ i₀ numbers i = length numbers - i
 
-loop-less : tie.Need-loop-less Inv-loop μ-loop
-loop-less c = simp length-set (omega arith)
-
-loop-again : tie.Need-loop-again Inv-loop μ-loop
-loop-again c = simp length-set (omega arith)
-
 pub set-spec : {M : Type 1} → statement M
-set-spec = tie.close (tie.spec Inv-loop μ-loop (λ c. omega arith) (search needs) (λ c. omega arith) (λ c. omega arith) (λ c. omega arith) loop-less loop-again (search needs) (search needs))
+set-spec =
+    tie.close
+    (tie.spec
+    Inv-loop μ-loop (λ c. omega arith) (search needs) (λ c. omega arith) (λ c. omega arith) (λ c. omega arith) (λ c. simp length-set (omega arith))
+    (λ c. simp length-set (omega arith)) (search needs) (search needs))

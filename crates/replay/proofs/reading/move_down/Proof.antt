@@ -13,8 +13,9 @@ Inv-loop s₀ from end stop to₀ at₀ s to at = (length s ≡ length s₀) × 
 abbrev μ-loop : tie.MeasureT-loop
 μ-loop s₀ from end stop to₀ at₀ s to at = stop - at
 
-loop-again : tie.Need-loop-again Inv-loop μ-loop
-loop-again c = simp length-set (search needs)
-
 pub move-down-spec : {M : Type 1} → statement M
-move-down-spec = tie.close (tie.spec Inv-loop μ-loop (search needs) (λ c. omega arith) (λ c. omega arith) (λ c. omega arith) (λ c. omega arith) (λ c. omega arith) (λ c. omega arith) loop-again (search needs) (search needs))
+move-down-spec =
+    tie.close
+    (tie.spec
+    Inv-loop μ-loop (search needs) (λ c. omega arith) (λ c. omega arith) (λ c. omega arith) (λ c. omega arith) (λ c. omega arith) (λ c. omega arith)
+    (λ c. simp length-set (search needs)) (search needs) (search needs))

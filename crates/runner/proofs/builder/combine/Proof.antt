@@ -2,9 +2,6 @@ use borrow.Author.Needs.{needs}
 use Rattle.runner.proofs.builder.combine.Statement.{statement}
 use Rattle.runner.proofs.builder.combine.Tie as tie
 
-append-requires : tie.Need-append-requires
-append-requires c κs = search needs
-
 returns : tie.Need-returns
 returns c =
     let appended = c .before .before .before .before .before .before .before .before .before .before .before .before .before .append .ensures in
@@ -18,4 +15,4 @@ returns c =
 pub combine-spec : {M : Type 1} → statement M
 combine-spec =
     tie.close
-    (tie.spec append-requires (search needs) (search needs) (search needs) (search needs) (search needs) (search needs) returns)
+    (tie.spec (λ c κs. search needs) (search needs) (search needs) (search needs) (search needs) (search needs) (search needs) returns)

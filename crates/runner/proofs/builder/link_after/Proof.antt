@@ -18,15 +18,9 @@ returns-2 c = rw (ne-eqb _ _ (c .before .if1 .left), eq-eqb _ _ (c .if2 .taken))
 tail : (c : tie.Else2) → (let a = c .before .before .args in (0 < a .tail) × (a .tail ≤ length (a .links .now)))
 tail c = c .before .before .pre (omega (arith, c .before .if1 .left))
 
-sub-links : tie.Need-sub-links
-sub-links c = omega (arith, tail c)
-
-slice-write-links : tie.Need-slice-write-links
-slice-write-links c = omega (arith, tail c)
-
 returns-3 : tie.Need-returns-3
 unfolding linkAfter
 returns-3 c = rw (ne-eqb _ _ (c .before .if1 .left), ne-eqb _ _ (c .if2 .left))
 
 pub link-after-spec : {M : Type 1} → statement M
-link-after-spec = tie.close (tie.spec returns returns-2 sub-links (search needs) (search needs) slice-write-links (search needs) returns-3)
+link-after-spec = tie.close (tie.spec returns returns-2 (λ c. omega (arith, tail c)) (search needs) (search needs) (λ c. omega (arith, tail c)) (search needs) returns-3)

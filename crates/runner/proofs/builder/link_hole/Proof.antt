@@ -6,22 +6,13 @@ use lib.ListN.{length}
 use Rattle.runner.proofs.builder.link_hole.Statement.{statement}
 use Rattle.runner.proofs.builder.link_hole.Tie as tie
 
-returns : tie.Need-returns
-returns c = rw (eq-eqb _ _ (c .if1 .taken))
-
 tail : (c : tie.Else1) → (let a = c .before .args in (0 < a .tail) × (21 * (a .tail - 1) + 21 ≤ length (a .table .now)))
 tail c = c .before .pre .2 (omega (arith, c .if1 .left))
-
-sub-table : tie.Need-sub-table
-sub-table c = omega (arith, tail c)
-
-slice-write-table-2 : tie.Need-slice-write-table-2
-slice-write-table-2 c = omega (arith, tail c)
-
-returns-2 : tie.Need-returns-2
-returns-2 c = rw (ne-eqb _ _ (c .if1 .left))
 
 pub link-hole-spec : {M : Type 1} → statement M
 link-hole-spec =
     tie.close
-    (tie.spec (search needs) (search needs) (search needs) (search needs) (search needs) (search needs) returns (search needs) sub-table (search needs) (search needs) (search needs) (search needs) slice-write-table-2 (search needs) returns-2)
+    (tie.spec
+    (search needs) (search needs) (search needs) (search needs) (search needs) (search needs) (λ c. rw (eq-eqb _ _ (c .if1 .taken))) (search needs)
+    (λ c. omega (arith, tail c)) (search needs) (search needs) (search needs) (search needs) (λ c. omega (arith, tail c)) (search needs)
+    (λ c. rw (ne-eqb _ _ (c .if1 .left))))

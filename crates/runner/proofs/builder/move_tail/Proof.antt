@@ -3,11 +3,5 @@ use borrow.Author.Tests.{eq-eqb, ne-eqb}
 use Rattle.runner.proofs.builder.move_tail.Statement.{statement}
 use Rattle.runner.proofs.builder.move_tail.Tie as tie
 
-returns : tie.Need-returns
-returns c = rw (eq-eqb _ _ (c .if1 .taken))
-
-returns-2 : tie.Need-returns-2
-returns-2 c = rw (ne-eqb _ _ (c .before .if1 .left))
-
 pub move-tail-spec : {M : Type 1} → statement M
-move-tail-spec = tie.close (tie.spec returns (search needs) (search needs) (search needs) (search needs) (search needs) returns-2)
+move-tail-spec = tie.close (tie.spec (λ c. rw (eq-eqb _ _ (c .if1 .taken))) (search needs) (search needs) (search needs) (search needs) (search needs) (λ c. rw (ne-eqb _ _ (c .before .if1 .left))))

@@ -5,7 +5,7 @@ use borrow.Author.Needs.{zero≤}
 use lib.ListN.{length, getD}
 use Rattle.rules.specs.Calls.{Buffers}
 use Rattle.runner.specs.Types.{configOf}
-use Rattle.runner.proofs.Widths.{within, size-fits, size-widens, room-fits, room-eight, eight-in}
+use Rattle.runner.proofs.Widths.{within, size-fits, size-widens, room-fits, part-fits, room-narrow, eight-in}
 use Rattle.runner.proofs.Runs.{can-run, can-finish, ran}
 use Rattle.runner.proofs.calls.accepted.Statement.{statement}
 use Rattle.runner.proofs.calls.accepted.Tie as tie
@@ -52,7 +52,7 @@ accepted-spec =
     (λ c. zero≤)
     (λ c. zero≤)
     (λ c. c .before .before .before .before .before .before .before .pre .links-fit)
-    (λ c. room-eight (within (c .before .before .before .before .before .before .before .before .before .pre .size .small)))
+    (λ c. part-fits 8 tt (room-narrow (within (c .before .before .before .before .before .before .before .before .before .pre .size .small))))
     (λ c. zero≤)
     (λ c. zero≤)
     (λ c. eight-in _ (c .before .before .before .before .before .before .before .before .before .pre .work-fits))

@@ -1,7 +1,7 @@
 use mathlib.Core.Path.{ap, _∙_}
 use Prim.Native.Nat.{_*_}
 use Rattle.runner.specs.Stage2.{withPart}
-use Rattle.runner.proofs.Widths.{five-fits, six-fits, five-offset, five-six, six-in, small-fits}
+use Rattle.runner.proofs.Widths.{part-fits, part-offset, parts-rise, part-in, small-fits}
 use Rattle.runner.proofs.Runs.{no-marks}
 use Rattle.runner.proofs.calls.blank.Statement.{statement}
 use Rattle.runner.proofs.calls.blank.Tie as tie
@@ -25,12 +25,12 @@ blank-spec =
     (tie.spec
     (λ c κs. tt)
     (λ c κs. tt)
-    (λ c. five-fits (small-fits (c .before .before .before .before .before .before .before .before .before .before .before .pre .1)))
-    (λ c. six-fits (small-fits (c .before .before .before .before .before .before .before .before .before .before .before .pre .1)))
-    (λ c. five-offset (small-fits (c .before .before .before .before .before .before .before .before .before .before .before .pre .1)))
-    (λ c. five-six _)
-    (λ c. five-six _)
-    (λ c. six-in _ (c .before .before .before .before .before .before .before .before .before .before .before .pre .0))
+    (λ c. part-fits 5 tt (small-fits (c .before .before .before .before .before .before .before .before .before .before .before .pre .1)))
+    (λ c. part-fits 6 tt (small-fits (c .before .before .before .before .before .before .before .before .before .before .before .pre .1)))
+    (λ c. part-offset 5 tt (small-fits (c .before .before .before .before .before .before .before .before .before .before .before .pre .1)))
+    (λ c. parts-rise 5 6 tt _)
+    (λ c. parts-rise 5 6 tt _)
+    (λ c. part-in 6 tt _ (c .before .before .before .before .before .before .before .before .before .before .before .pre .0))
     (λ c κs. tt)
     (λ c. c .before .before .before .before .before .before .before .before .before .before .clear .kept .0)
     (λ c. c .before .before .before .before .before .before .clear2 .kept .0)

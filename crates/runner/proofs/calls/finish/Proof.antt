@@ -14,10 +14,7 @@ drop-empty-requires c κs =
       λ i l. rw (part-at w (6 * room) (8 * room) i (omega (arith, s .pre .entries))) (s .pre .slots i l),
     )
 
-returns : tie.Need-returns
-returns c = search needs
-
 pub finish-spec : {M : Type 1} → statement M
 finish-spec =
     tie.close
-    (tie.spec (search needs) (search needs) (search needs) (search needs) (search needs) (search needs) drop-empty-requires (search needs) (search needs) (search needs) returns)
+    (tie.spec (search needs) (search needs) (search needs) (search needs) (search needs) (search needs) drop-empty-requires (search needs) (search needs) (search needs) (λ c. search needs))

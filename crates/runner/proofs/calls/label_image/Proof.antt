@@ -2,7 +2,7 @@ use mathlib.Core.Path.{sym, ap, _∙_}
 use mir.Syntax.{w32}
 use mir.ValLaws.{toZ-ofZ}
 use Rattle.rules.specs.Refusals.{badShift}
-use Rattle.runner.proofs.Widths.{size-fits, size-widens, room-fits, room-small, room-thrice, room-five, room-offset, three-five, five-in}
+use Rattle.runner.proofs.Widths.{size-fits, size-widens, room-fits, room-small, part-fits, room-narrow, part-offset, parts-rise, part-in}
 use Rattle.runner.proofs.Runs.{stage-1-asks, labelled}
 use Rattle.runner.proofs.calls.label_image.Statement.{statement}
 use Rattle.runner.proofs.calls.label_image.Tie as tie
@@ -26,12 +26,12 @@ label-image-spec =
     (λ c. size-widens (c .before .before .before .before .before .pre .image-fits .small))
     (λ c. room-fits (c .before .before .before .before .before .pre .image-fits .small))
     (λ c κs. (c .before .before .before .before .before .before .before .before .before .pre .work, room-small (c .before .before .before .before .before .before .before .before .before .pre .image-fits .small)))
-    (λ c. room-thrice (c .before .before .before .before .before .before .before .before .before .before .before .before .before .before .before .before .before .before .before .pre .image-fits .small))
-    (λ c. room-five (c .before .before .before .before .before .before .before .before .before .before .before .before .before .before .before .before .before .before .before .pre .image-fits .small))
-    (λ c. room-offset (c .before .before .before .before .before .before .before .before .before .before .before .before .before .before .before .before .before .before .before .pre .image-fits .small))
-    (λ c. three-five _)
-    (λ c. three-five _)
-    (λ c. five-in _ (c .before .before .before .before .before .before .before .before .before .blank .kept .1 .1 .0 ∙ c .before .before .before .before .before .before .before .before .before .before .before .before .before .before .before .before .before .before .before .pre .work))
+    (λ c. part-fits 3 tt (room-narrow (c .before .before .before .before .before .before .before .before .before .before .before .before .before .before .before .before .before .before .before .pre .image-fits .small)))
+    (λ c. part-fits 5 tt (room-narrow (c .before .before .before .before .before .before .before .before .before .before .before .before .before .before .before .before .before .before .before .pre .image-fits .small)))
+    (λ c. part-offset 3 tt (room-narrow (c .before .before .before .before .before .before .before .before .before .before .before .before .before .before .before .before .before .before .before .pre .image-fits .small)))
+    (λ c. parts-rise 3 5 tt _)
+    (λ c. parts-rise 3 5 tt _)
+    (λ c. part-in 5 tt _ (c .before .before .before .before .before .before .before .before .before .blank .kept .1 .1 .0 ∙ c .before .before .before .before .before .before .before .before .before .before .before .before .before .before .before .before .before .before .before .pre .work))
     shift-of-requires
     stage-1-requires
     (λ c. c .before .before .before .before .before .before .before .before .stage-1 .kept .1 .0 ∙ c .before .before .before .before .before .before .before .before .before .before .before .before .before .before .before .before .before .before .before .before .blank .kept .0)

@@ -21,15 +21,9 @@ Inv-loop image labels links o w h k first count at₀ left₀ at left =
 abbrev μ-loop : tie.MeasureT-loop
 μ-loop image labels links o w h k first count at₀ left₀ at left = left
 
-loop-holds : tie.Need-loop-holds Inv-loop μ-loop
-loop-holds c = (c .before .before .before .pre .1, refl)
-
 -- in a turn the chain goes on
 on : (c : tie.In-loop Inv-loop μ-loop) → (let a = c .before .before .before .before .before .args in Step (a .w * a .h) (a .links .now) (c .before .loop .at) (c .before .loop .left))
 on c = step _ _ _ _ (c .loop-test .taken) (c .before .loop .inv .0)
-
-sub-p : tie.Need-sub-p Inv-loop μ-loop
-sub-p c = omega (arith, on c .some)
 
 surrounded-requires : tie.Need-surrounded-requires Inv-loop μ-loop
 surrounded-requires c κs =
@@ -44,15 +38,6 @@ returns c = rw (on (c .before .before) .here, sym (c .before .surrounded .ensure
 read-at : (c : tie.Else1 Inv-loop μ-loop) → (let a = c .before .before .before .before .before .before .before .args in c .before .before .before .loop .at - 1 < length (a .links .now))
 read-at c = omega (arith, on (c .before .before) .some, on (c .before .before) .within, c .before .before .before .before .before .before .before .pre .0 .1)
 
-cast-at : tie.Need-cast-at Inv-loop μ-loop
-cast-at c = omega (arith, read-at c, c .before .before .before .before .before .before .before .good)
-
-mul-at : tie.Need-mul-at Inv-loop μ-loop
-mul-at c = omega (arith, read-at c, c .before .before .before .before .before .before .before .good)
-
-shared-slice-read-at : tie.Need-shared-slice-read-at Inv-loop μ-loop
-shared-slice-read-at c = read-at (c .before)
-
 returns-2 : tie.Need-returns-2 Inv-loop μ-loop
 unfolding someInside
 returns-2 c = rw (walk-none _ _ _ (c .loop-test .left)) at (c .before .loop .inv .1)
@@ -64,4 +49,10 @@ loop-again c =
     (s .rest, rw (s .here, sym (c .before .before .surrounded .ensures) ∙ c .before .if1 .left) at (c .before .before .before .before .loop .inv .1))
 
 pub has-interior-spec : {M : Type 1} → statement M
-has-interior-spec = tie.close (tie.spec Inv-loop μ-loop loop-holds sub-p surrounded-requires returns cast-at mul-at shared-slice-read-at (search needs) (search needs) loop-again returns-2)
+has-interior-spec =
+    tie.close
+    (tie.spec
+    Inv-loop μ-loop (λ c. (c .before .before .before .pre .1, refl)) (λ c. omega (arith, on c .some)) surrounded-requires returns
+    (λ c. omega (arith, read-at c, c .before .before .before .before .before .before .before .good))
+    (λ c. omega (arith, read-at c, c .before .before .before .before .before .before .before .good))
+    (λ c. read-at (c .before)) (search needs) (search needs) loop-again returns-2)

@@ -1,6 +1,6 @@
-use mathlib.Core.Path.{_≡_, refl, sym}
-use mathlib.Core.Bool.{Bool, true, false, _&&_}
-use Prim.Native.Nat.{ℕ, _-_, _≤_, _<_}
+use mathlib.Core.Path.{_≡_, sym}
+use mathlib.Core.Bool.{Bool, true, _&&_, and-true, and-false, and-assoc}
+use Prim.Native.Nat.{ℕ, _≤_, _<_}
 use native.Mathlib.Nat.{mod-lt}
 use native.Mathlib.Omega.{arith}
 use borrow.Author.Needs.{needs}
@@ -10,18 +10,6 @@ use Rattle.rules.specs.Stage2.{allIn}
 use Rattle.runner.proofs.Places.{right-in}
 use Rattle.runner.proofs.geometry.surrounded.Statement.{statement}
 use Rattle.runner.proofs.geometry.surrounded.Tie as tie
-
--- a side off the image leaves nothing
-and-false : (b : Bool) → b && false ≡ false
-and-false true = refl
-and-false false = refl
-
-and4 : (a b c d : Bool) → a && b && c && d ≡ a && (b && (c && (d && true)))
-and4 true true true true = refl
-and4 true true true false = refl
-and4 true true false d = refl
-and4 true false c d = refl
-and4 false b c d = refl
 
 first-column : (x : ℕ) → x ≡ 0 → x ≤ 0
 first-column x e = omega arith
@@ -56,7 +44,7 @@ in-list-requires-4 c κs =
     (omega (arith, right-in (s .args .w) (s .args .h) (s .args .p) (s .pre .4) (s .pre .0) (c .before .before .before .if4 .left), s .pre .1), s .pre .2)
 
 four : {a b c d a′ b′ c′ d′ : Bool} → a ≡ a′ → b ≡ b′ → c ≡ c′ → d ≡ d′ → a && b && c && d ≡ a′ && (b′ && (c′ && (d′ && true)))
-four {a} {b} {c} {d} e f g h = rw (sym e, sym f, sym g, sym h) (and4 a b c d)
+four e f g h = rw (sym e, sym f, sym g, sym h) (simp (and-true, and-assoc))
 
 returns-5 : tie.Need-returns-5
 unfolding sides allIn

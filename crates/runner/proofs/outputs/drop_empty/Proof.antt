@@ -1,4 +1,4 @@
-use mathlib.Core.Path.{_≡_, refl}
+use mathlib.Core.Path.{_≡_}
 use Prim.Native.Nat.{_-_, _≤_, _<_}
 use native.Mathlib.Omega.{arith}
 use borrow.Author.Needs.{needs}
@@ -13,9 +13,6 @@ Inv-loop table staged outputs₀ m i₀ kept₀ outputs i kept = (i ≤ m) × Do
 abbrev μ-loop : tie.MeasureT-loop
 μ-loop table staged outputs₀ m i₀ kept₀ outputs i kept = m - i
 
-loop-holds : tie.Need-loop-holds Inv-loop μ-loop
-loop-holds c = (omega arith, done-none _ _)
-
 -- in a turn: an entry is left, and no more are kept than are done
 room : (c : tie.In-loop Inv-loop μ-loop) → (let a = c .before .before .before .before .before .args in (c .before .loop .i < length (a .staged .now)) × (c .before .loop .kept < length (a .outputs .now)) × (c .before .loop .kept ≤ c .before .loop .i))
 room c =
@@ -23,12 +20,6 @@ room c =
     let l = c .before .loop in
     let f = done-few (s .args .staged .now) (l .i) (omega (arith, l .inv .0, s .pre .0)) (l .inv .1) in
     (omega (arith, c .loop-test .taken, s .pre .0), omega (arith, c .loop-test .taken, f, s .pre .0), f)
-
-cast-keep-entry : tie.Need-cast-keep-entry Inv-loop μ-loop
-cast-keep-entry c = omega (arith, c .before .loop-test .taken, c .before .before .before .before .before .before .fits .m)
-
-shared-slice-read-keep-entry : tie.Need-shared-slice-read-keep-entry Inv-loop μ-loop
-shared-slice-read-keep-entry c = room (c .before .before) .0
 
 keep-entry-requires : tie.Need-keep-entry-requires Inv-loop μ-loop
 keep-entry-requires c κs =
@@ -62,4 +53,7 @@ returns c =
 pub drop-empty-spec : {M : Type 1} → statement M
 drop-empty-spec =
     tie.close
-    (tie.spec Inv-loop μ-loop loop-holds cast-keep-entry (search needs) shared-slice-read-keep-entry keep-entry-requires (search needs) (search needs) loop-again same-length returns)
+    (tie.spec
+    Inv-loop μ-loop (λ c. (omega arith, done-none _ _))
+    (λ c. omega (arith, c .before .loop-test .taken, c .before .before .before .before .before .before .fits .m))
+    (search needs) (λ c. room (c .before .before) .0) keep-entry-requires (search needs) (search needs) loop-again same-length returns)

@@ -12,24 +12,6 @@ Inv-loop queue₀ n room k key x₀ e₀ queue x e = Climbing queue₀ queue n r
 abbrev μ-loop : tie.MeasureT-loop
 μ-loop queue₀ n room k key x₀ e₀ queue x e = x
 
-mul-queue : tie.Need-mul-queue Inv-loop μ-loop
-mul-queue c = omega arith
-
-slice-write-queue : tie.Need-slice-write-queue Inv-loop μ-loop
-slice-write-queue c = omega arith
-
-add-x : tie.Need-add-x Inv-loop μ-loop
-add-x c = omega arith
-
-cast-t11 : tie.Need-cast-t11 Inv-loop μ-loop
-cast-t11 c = omega arith
-
-loop-holds : tie.Need-loop-holds Inv-loop μ-loop
-loop-holds c = climb-start _ _ _ _ _ (c .before .pre .0) (c .before .pre .1 .0) (c .before .pre .1 .1)
-
-refresh-requires : tie.Need-refresh-requires Inv-loop μ-loop
-refresh-requires c κs = let I = c .before .before .loop .inv in (I .sized, ((c .before .loop-test .taken, I .inside), I .stands))
-
 same-length : tie.Need-same-length Inv-loop μ-loop
 same-length c =
     let l = c .before .before .before .before .before .before in
@@ -44,16 +26,10 @@ returns c =
       keys = climb-up _ _ _ _ _ _ _ (l .before .loop .inv) (l .loop-test .taken) _ R .keys;
     }
 
-loop-less : tie.Need-loop-less Inv-loop μ-loop
-loop-less c = omega (arith, c .before .before .before .before .before .before .before .loop-test .taken)
-
 loop-again : tie.Need-loop-again Inv-loop μ-loop
 loop-again c =
     let l = c .before .before .before .before .before .before .before in
     climb-up _ _ _ _ _ _ _ (l .before .loop .inv) (l .loop-test .taken) _ (c .before .before .before .before .before .refresh .ensures)
-
-same-length-2 : tie.Need-same-length-2 Inv-loop μ-loop
-same-length-2 c = simp length-set at (c .before .loop .inv .long)
 
 returns-2 : tie.Need-returns-2 Inv-loop μ-loop
 returns-2 c = record { tree = climb-end _ _ _ _ _ _ (c .loop-test .left) (c .before .loop .inv); keys = c .before .loop .inv .keys }
@@ -64,15 +40,15 @@ set-key-spec =
     (tie.spec
     Inv-loop
     μ-loop
-    mul-queue
-    slice-write-queue
-    add-x
-    cast-t11
-    loop-holds
-    refresh-requires
+    (λ c. omega arith)
+    (λ c. omega arith)
+    (λ c. omega arith)
+    (λ c. omega arith)
+    (λ c. climb-start _ _ _ _ _ (c .before .pre .0) (c .before .pre .1 .0) (c .before .pre .1 .1))
+    (λ c κs. let I = c .before .before .loop .inv in (I .sized, ((c .before .loop-test .taken, I .inside), I .stands)))
     same-length
     returns
-    loop-less
+    (λ c. omega (arith, c .before .before .before .before .before .before .before .loop-test .taken))
     loop-again
-    same-length-2
+    (λ c. simp length-set at (c .before .loop .inv .long))
     returns-2)

@@ -26,9 +26,6 @@ Inv-loop table₀ k b j₀ table j = Going table₀ b table j
 abbrev μ-loop : tie.MeasureT-loop
 μ-loop table₀ k b j₀ table j = 21 - j
 
-loop-holds : tie.Need-loop-holds Inv-loop μ-loop
-loop-holds c = record { long = refl; few = omega arith; rest = refl }
-
 loop-again : tie.Need-loop-again Inv-loop μ-loop
 loop-again c = let s = c .before .loop in
     record { long = simp length-set (s .inv .long); few = omega arith; rest = turn _ _ _ (c .loop-test .taken) ∙ s .inv .rest }
@@ -44,7 +41,7 @@ clear-slot-spec =
     Inv-loop
     μ-loop
     (λ c. omega arith)
-    loop-holds
+    (λ c. record { long = refl; few = omega arith; rest = refl })
     (λ c. omega arith)
     (λ c. omega arith)
     (λ c. omega arith)

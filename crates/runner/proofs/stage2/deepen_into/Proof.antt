@@ -1,6 +1,6 @@
 use mathlib.Core.Path.{_∙_}
 use borrow.Author.Tests.{le-leb, lt-leb}
-use Rattle.runner.proofs.Widths.{thrice-fits, five-fits, thrice-offset, three-five, five-in, same-long}
+use Rattle.runner.proofs.Widths.{part-fits, part-offset, parts-rise, part-in, same-long}
 use Rattle.runner.proofs.Rooms.{deepen-puts, deepen-asks, deepened-grows, deepened-visited, hollow-asks, hollowed-grows, hollowed-visited}
 use Rattle.runner.proofs.stage2.deepen_into.Statement.{statement}
 use Rattle.runner.proofs.stage2.deepen_into.Tie as tie
@@ -16,19 +16,19 @@ deepen-into-spec =
     tie.close
     (tie.spec
     (λ c κs. deepen-puts (c .before .before .before .before .before .pre .5))
-    (λ c. thrice-fits (c .before .before .before .before .before .before .before .before .before .before .before .fits .room))
-    (λ c. five-fits (c .before .before .before .before .before .before .before .before .before .before .before .fits .room))
-    (λ c. thrice-offset (c .before .before .before .before .before .before .before .before .before .before .before .fits .room))
-    (λ c. three-five (c .before .before .before .before .before .before .before .before .before .before .before .args .room))
-    (λ c. three-five (c .before .before .before .before .before .before .before .before .before .before .before .args .room))
-    (λ c. five-in _ (c .before .before .before .before .before .put .kept .0 ∙ deepen-puts (c .before .before .before .before .before .before .before .before .before .before .before .pre .5) .long))
+    (λ c. part-fits 3 tt (c .before .before .before .before .before .before .before .before .before .before .before .fits .room))
+    (λ c. part-fits 5 tt (c .before .before .before .before .before .before .before .before .before .before .before .fits .room))
+    (λ c. part-offset 3 tt (c .before .before .before .before .before .before .before .before .before .before .before .fits .room))
+    (λ c. parts-rise 3 5 tt (c .before .before .before .before .before .before .before .before .before .before .before .args .room))
+    (λ c. parts-rise 3 5 tt (c .before .before .before .before .before .before .before .before .before .before .before .args .room))
+    (λ c. part-in 5 tt _ (c .before .before .before .before .before .put .kept .0 ∙ deepen-puts (c .before .before .before .before .before .before .before .before .before .before .before .pre .5) .long))
     (λ c κs. deepen-asks (c .before .before .before .before .before .before .before .before .before .before .before .before .pre .5) (c .before .before .before .before .before .before .put .ensures))
-    (λ c. thrice-fits (c .before .before .before .before .before .before .before .before .before .before .before .before .before .before .before .before .before .before .before .before .before .before .before .before .before .fits .room))
-    (λ c. five-fits (c .before .before .before .before .before .before .before .before .before .before .before .before .before .before .before .before .before .before .before .before .before .before .before .before .before .fits .room))
-    (λ c. thrice-offset (c .before .before .before .before .before .before .before .before .before .before .before .before .before .before .before .before .before .before .before .before .before .before .before .before .before .fits .room))
-    (λ c. three-five (c .before .before .before .before .before .before .before .before .before .before .before .before .before .before .before .before .before .before .before .before .before .before .before .before .before .args .room))
-    (λ c. three-five (c .before .before .before .before .before .before .before .before .before .before .before .before .before .before .before .before .before .before .before .before .before .before .before .before .before .args .room))
-    (λ c. five-in _ (deepened-grows (c .before .before .before .before .before .before .before .before .before .before .before .before .before .before .before .before .before .before .before .before .before .before .before .before .before .pre .5) (c .before .before .before .before .before .before .before .before .before .before .before .before .before .before .before .before .before .before .before .put .ensures) (c .before .before .before .before .before .before .before .before .before .before .before .before .deepen .ensures) .long))
+    (λ c. part-fits 3 tt (c .before .before .before .before .before .before .before .before .before .before .before .before .before .before .before .before .before .before .before .before .before .before .before .before .before .fits .room))
+    (λ c. part-fits 5 tt (c .before .before .before .before .before .before .before .before .before .before .before .before .before .before .before .before .before .before .before .before .before .before .before .before .before .fits .room))
+    (λ c. part-offset 3 tt (c .before .before .before .before .before .before .before .before .before .before .before .before .before .before .before .before .before .before .before .before .before .before .before .before .before .fits .room))
+    (λ c. parts-rise 3 5 tt (c .before .before .before .before .before .before .before .before .before .before .before .before .before .before .before .before .before .before .before .before .before .before .before .before .before .args .room))
+    (λ c. parts-rise 3 5 tt (c .before .before .before .before .before .before .before .before .before .before .before .before .before .before .before .before .before .before .before .before .before .before .before .before .before .args .room))
+    (λ c. part-in 5 tt _ (deepened-grows (c .before .before .before .before .before .before .before .before .before .before .before .before .before .before .before .before .before .before .before .before .before .before .before .before .before .pre .5) (c .before .before .before .before .before .before .before .before .before .before .before .before .before .before .before .before .before .before .before .put .ensures) (c .before .before .before .before .before .before .before .before .before .before .before .before .deepen .ensures) .long))
     (λ c κs. hollow-asks (c .before .before .before .before .before .before .before .before .before .before .before .before .before .before .before .before .before .before .before .before .before .before .before .before .before .before .pre .5) (c .before .before .before .before .before .before .before .before .before .before .before .before .before .before .before .before .before .before .before .before .put .ensures) (c .before .before .before .before .before .before .before .before .before .before .before .before .before .deepen .ensures))
     (λ c κs. hollowed-grows (c .before .before .before .before .before .before .before .before .before .before .before .before .before .before .before .before .before .before .before .before .before .before .before .before .before .before .before .before .before .before .before .before .before .pre .5) (c .before .before .before .before .before .before .before .before .before .before .before .before .before .before .before .before .before .before .before .before .before .before .before .before .before .before .before .put .ensures) (c .before .before .before .before .before .before .before .before .before .before .before .before .before .before .before .before .before .before .before .before .deepen .ensures) (c .before .before .before .before .before .before .append-hole .ensures))
     (λ c. c .before .before .before .before .before .before .before .before .before .before .before .before .before .before .before .before .before .before .before .before .before .before .before .deepen .kept .0)

@@ -46,17 +46,11 @@ told c =
     let same : toZ w32 (ofZ w32 z) ≡ z = search needs in
     c .exceeds .ensures ∙ ap (exceeds _) same
 
-returns : tie.Need-returns
-returns c = refused _ _ _ _ _ _ _ _ _ _ (told (c .before)) (c .if1 .taken)
-
 returns-2 : tie.Need-returns-2
 returns-2 c = passed _ _ _ _ _ _ _ _ _ _ (told (c .before .before .before)) (c .before .before .if1 .left) (eq-eqb _ _ (c .if2 .taken))
-
-has-interior-requires : tie.Need-has-interior-requires
-has-interior-requires c κs = search needs
 
 returns-3 : tie.Need-returns-3
 returns-3 c = c .has-interior .ensures ∙ passed _ _ _ _ _ _ _ _ _ _ (told (c .before .before .before .before)) (c .before .before .before .if1 .left) (ne-eqb _ _ (c .before .if2 .left))
 
 pub deepens-spec : {M : Type 1} → statement M
-deepens-spec = tie.close (tie.spec (search needs) returns returns-2 has-interior-requires returns-3)
+deepens-spec = tie.close (tie.spec (search needs) (λ c. refused _ _ _ _ _ _ _ _ _ _ (told (c .before)) (c .if1 .taken)) returns-2 (λ c κs. search needs) returns-3)

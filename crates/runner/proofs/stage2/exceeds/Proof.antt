@@ -6,8 +6,5 @@ use Rattle.color.proofs.Laws.{at-most}
 use Rattle.runner.proofs.stage2.exceeds.Statement.{statement}
 use Rattle.runner.proofs.stage2.exceeds.Tie as tie
 
-returns : tie.Need-returns
-returns c = ap not (at-most {d = c .args .d} (omega arith) (c .fits .z))
-
 pub exceeds-spec : {M : Type 1} → statement M
-exceeds-spec = tie.close (tie.spec (search needs) returns)
+exceeds-spec = tie.close (tie.spec (search needs) (λ c. ap not (at-most {d = c .args .d} (omega arith) (c .fits .z))))

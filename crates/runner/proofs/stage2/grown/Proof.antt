@@ -1,5 +1,5 @@
 use mathlib.Core.Path.{refl, ap, _∙_, subst}
-use Prim.Native.Nat.{_*_, _-_, max}
+use Prim.Native.Nat.{_*_, max}
 use native.Mathlib.Omega.{arith}
 use borrow.Author.Needs.{needs}
 use Rattle.runner.specs.Queue.{KeySet}
@@ -7,9 +7,6 @@ use Rattle.runner.specs.Stage2.{queuePart}
 use Rattle.runner.proofs.Parts.{part-length}
 use Rattle.runner.proofs.stage2.grown.Statement.{statement}
 use Rattle.runner.proofs.stage2.grown.Tie as tie
-
-set-key-requires : tie.Need-set-key-requires
-set-key-requires c κs = search needs
 
 returns : tie.Need-returns
 returns c =
@@ -28,4 +25,4 @@ returns c =
 pub grown-spec : {M : Type 1} → statement M
 grown-spec =
     tie.close
-    (tie.spec (search needs) (search needs) (search needs) (search needs) (search needs) (search needs) set-key-requires (search needs) (search needs) returns)
+    (tie.spec (search needs) (search needs) (search needs) (search needs) (search needs) (search needs) (λ c κs. search needs) (search needs) (search needs) returns)

@@ -5,11 +5,5 @@ use Rattle.runner.proofs.Queues.{stored-some}
 use Rattle.runner.proofs.stage2.key_of.Statement.{statement}
 use Rattle.runner.proofs.stage2.key_of.Tie as tie
 
-returns : tie.Need-returns
-returns c = sym (ap stored (c .if1 .taken))
-
-returns-2 : tie.Need-returns-2
-returns-2 c = sym (stored-some _ (omega arith))
-
 pub key-of-spec : {M : Type 1} → statement M
-key-of-spec = tie.close (tie.spec returns returns-2)
+key-of-spec = tie.close (tie.spec (λ c. sym (ap stored (c .if1 .taken))) (λ c. sym (stored-some _ (omega arith))))

@@ -1,5 +1,5 @@
 use Rattle.runner.proofs.Visiting.{own-fits, lengths-fit, deepens-told, deepens-reads, diff-told}
-use Rattle.runner.proofs.Widths.{thrice-fits, five-fits, thrice-offset, three-five, five-in, same-long}
+use Rattle.runner.proofs.Widths.{part-fits, part-offset, parts-rise, part-in, same-long}
 use Rattle.runner.proofs.Rooms.{can-put, merge-asks, merged-grows, merged-visited}
 use Rattle.runner.proofs.stage2.merge_into.Statement.{statement}
 use Rattle.runner.proofs.stage2.merge_into.Tie as tie
@@ -53,12 +53,12 @@ merge-into-spec =
     (λ c. c .before .before .before .before .before .before .before .before .deepen-into .kept .1 .1 .0)
     (λ c. c .before .before .before .before .before .before .before .before .deepen-into .kept .1 .1 .1 .0)
     returns
-    (λ c. thrice-fits (c .before .before .before .before .before .before .before .before .before .before .before .before .before .before .fits .room))
-    (λ c. five-fits (c .before .before .before .before .before .before .before .before .before .before .before .before .before .before .fits .room))
-    (λ c. thrice-offset (c .before .before .before .before .before .before .before .before .before .before .before .before .before .before .fits .room))
-    (λ c. three-five (c .before .before .before .before .before .before .before .before .before .before .before .before .before .before .args .room))
-    (λ c. three-five (c .before .before .before .before .before .before .before .before .before .before .before .before .before .before .args .room))
-    (λ c. five-in _ (can-put (c .before .before .before .before .before .before .before .before .before .before .before .before .before .before .pre .0) (c .before .before .before .before .before .before .before .before .before .before .before .before .before .before .pre .1 .0 .1) .long))
+    (λ c. part-fits 3 tt (c .before .before .before .before .before .before .before .before .before .before .before .before .before .before .fits .room))
+    (λ c. part-fits 5 tt (c .before .before .before .before .before .before .before .before .before .before .before .before .before .before .fits .room))
+    (λ c. part-offset 3 tt (c .before .before .before .before .before .before .before .before .before .before .before .before .before .before .fits .room))
+    (λ c. parts-rise 3 5 tt (c .before .before .before .before .before .before .before .before .before .before .before .before .before .before .args .room))
+    (λ c. parts-rise 3 5 tt (c .before .before .before .before .before .before .before .before .before .before .before .before .before .before .args .room))
+    (λ c. part-in 5 tt _ (can-put (c .before .before .before .before .before .before .before .before .before .before .before .before .before .before .pre .0) (c .before .before .before .before .before .before .before .before .before .before .before .before .before .before .pre .1 .0 .1) .long))
     (λ c κs. merge-asks (c .before .before .before .before .before .before .before .before .before .before .before .before .before .before .before .pre .0) (c .before .before .before .before .before .before .before .before .before .before .before .before .before .before .before .pre .1 .0 .1) (c .before .before .before .before .before .before .before .before .before .before .before .before .before .before .before .pre .1 .1))
     (λ c κs. merged-grows (c .before .before .before .before .before .before .before .before .before .before .before .before .before .before .before .before .before .before .before .before .before .before .before .before .before .before .pre .0) (c .before .before .before .before .before .before .before .before .before .before .before .before .before .before .before .before .before .before .before .before .before .before .before .before .before .before .pre .1 .0 .1) (c .before .before .before .before .before .before .before .before .before .before .before .before .before .before .before .before .before .before .before .before .before .before .before .before .before .before .pre .1 .1) (c .before .before .before .before .before .before .before .before .before .before .merge .ensures))
     (λ c. c .before .before .before .before .before .before .before .before .before .before .before .before .before .merge .kept .0)

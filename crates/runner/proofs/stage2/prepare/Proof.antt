@@ -12,9 +12,6 @@ Inv-loop table₀ queue₀ n k₀ largest₀ table queue k largest = Preparing n
 abbrev μ-loop : tie.MeasureT-loop
 μ-loop table₀ queue₀ n k₀ largest₀ table queue k largest = n - k
 
-loop-holds : tie.Need-loop-holds Inv-loop μ-loop
-loop-holds c = prepare-begin _ _ _ (c .before .before .pre .1)
-
 prepare-slot-requires : tie.Need-prepare-slot-requires Inv-loop μ-loop
 prepare-slot-requires c κs =
     let p = c .before .before .before .before .before .before .pre in
@@ -26,16 +23,9 @@ loop-again c =
     let b = c .before .before .before .before in
     prepare-next (b .before .before .before .before .loop .inv) (b .before .before .before .loop-test .taken) (b .prepare-slot .kept .0) (b .prepare-slot .ensures)
 
-same-length : tie.Need-same-length Inv-loop μ-loop
-same-length c = c .before .loop .inv .long
-
-same-length-2 : tie.Need-same-length-2 Inv-loop μ-loop
-same-length-2 c = c .before .loop .inv .same
-
-returns : tie.Need-returns Inv-loop μ-loop
-returns c = prepare-done (c .before .loop .inv) (c .loop-test .left)
-
 pub prepare-spec : {M : Type 1} → statement M
 prepare-spec =
     tie.close
-    (tie.spec Inv-loop μ-loop loop-holds prepare-slot-requires (search needs) (search needs) loop-again same-length same-length-2 returns)
+    (tie.spec
+    Inv-loop μ-loop (λ c. prepare-begin _ _ _ (c .before .before .pre .1)) prepare-slot-requires (search needs) (search needs) loop-again
+    (λ c. c .before .loop .inv .long) (λ c. c .before .loop .inv .same) (λ c. prepare-done (c .before .loop .inv) (c .loop-test .left)))

@@ -8,7 +8,7 @@ use Rattle.rules.specs.Color.{RunnerConfig}
 use Rattle.runner.specs.declared.stage2.Turns.{Turns}
 use Rattle.runner.specs.Types.{configOf}
 use Rattle.runner.specs.Stage2.{Between}
-use Rattle.runner.proofs.Widths.{size-fits, room-narrow, room-fits, room-thrice, thrice-in}
+use Rattle.runner.proofs.Widths.{size-fits, room-narrow, room-fits, part-fits, part-in}
 use Rattle.runner.proofs.Starting.{preparing-fits, building, started}
 use Rattle.runner.proofs.Turning.{picking, chooses, ends, turns-left}
 use Rattle.runner.proofs.stage2.stage_2.Statement.{statement}
@@ -32,29 +32,11 @@ Inv-loop image labels₀ links₀ table₀ work₀ o w h n room r largest t₀ l
 abbrev μ-loop : tie.MeasureT-loop
 μ-loop image labels₀ links₀ table₀ work₀ o w h n room r largest t₀ labels links table work t = 2 * (w * h) - t .turns
 
-mul-room : tie.Need-mul-room Inv-loop μ-loop
-mul-room c = size-fits (c .before .before .before .before .before .pre .0 .image-fits .small)
-
-add-room : tie.Need-add-room Inv-loop μ-loop
-add-room c = room-narrow (c .before .before .before .before .before .pre .0 .image-fits .small)
-
-cast-r : tie.Need-cast-r Inv-loop μ-loop
-cast-r c = room-fits (c .before .before .before .before .before .pre .0 .image-fits .small)
-
-mul-prepare : tie.Need-mul-prepare Inv-loop μ-loop
-mul-prepare c = room-thrice (c .before .before .before .before .before .before .pre .0 .image-fits .small)
-
-part-prepare-end : tie.Need-part-prepare-end Inv-loop μ-loop
-part-prepare-end c = thrice-in _ (c .before .before .before .before .before .before .pre .0 .work)
-
 prepare-requires : tie.Need-prepare-requires Inv-loop μ-loop
 prepare-requires c κs = let p = c .before .before .before .before .before .before .before .pre in preparing-fits (p .0) (p .1 .1)
 
-mul-build : tie.Need-mul-build Inv-loop μ-loop
-mul-build c = room-thrice (c .before .before .before .before .before .before .before .before .before .before .before .before .pre .0 .image-fits .small)
-
 part-build-end : tie.Need-part-build-end Inv-loop μ-loop
-part-build-end c = let p = c .before .before .before .before .before .before .before .before .before .before .before .before .pre in let s = c .before .before .before .before .prepare in thrice-in _ (building (p .0) (p .1 .1) (s .ensures) (s .kept .1 .0) .0)
+part-build-end c = let p = c .before .before .before .before .before .before .before .before .before .before .before .before .pre in let s = c .before .before .before .before .prepare in part-in 3 tt _ (building (p .0) (p .1 .1) (s .ensures) (s .kept .1 .0) .0)
 
 build-requires : tie.Need-build-requires Inv-loop μ-loop
 build-requires c κs = let p = c .before .before .before .before .before .before .before .before .before .before .before .before .before .pre in let s = c .before .before .before .before .before .prepare in building (p .0) (p .1 .1) (s .ensures) (s .kept .1 .0) .1
@@ -71,21 +53,6 @@ loop-holds c =
       links = refl;
       table = refl;
     }
-
-mul-first : tie.Need-mul-first Inv-loop μ-loop
-mul-first c = room-thrice (c .loop .inv .some .1 .image-fits .small)
-
-part-first-end : tie.Need-part-first-end Inv-loop μ-loop
-part-first-end c = thrice-in _ (c .before .loop .inv .some .1 .carried .long)
-
-first-requires : tie.Need-first-requires Inv-loop μ-loop
-first-requires c κs = picking (c .before .before .before .loop .inv .some .1)
-
-same-length : tie.Need-same-length Inv-loop μ-loop
-same-length c = c .before .before .before .before .before .before .loop .inv .labels
-
-same-length-2 : tie.Need-same-length-2 Inv-loop μ-loop
-same-length-2 c = c .before .before .before .before .before .before .loop .inv .links
 
 same-length-3 : tie.Need-same-length-3 Inv-loop μ-loop
 same-length-3 c = c .before .before .before .before .before .before .loop .inv .table ∙ c .before .before .before .before .before .before .before .before .before .before .before .before .before .before .before .prepare .kept .0
@@ -125,28 +92,28 @@ stage-2-spec =
     (tie.spec
     Inv-loop
     μ-loop
-    mul-room
-    add-room
-    cast-r
-    mul-prepare
+    (λ c. size-fits (c .before .before .before .before .before .pre .0 .image-fits .small))
+    (λ c. room-narrow (c .before .before .before .before .before .pre .0 .image-fits .small))
+    (λ c. room-fits (c .before .before .before .before .before .pre .0 .image-fits .small))
+    (λ c. part-fits 3 tt (room-narrow (c .before .before .before .before .before .before .pre .0 .image-fits .small)))
     (λ c. zero≤)
     (λ c. zero≤)
-    part-prepare-end
+    (λ c. part-in 3 tt _ (c .before .before .before .before .before .before .pre .0 .work))
     prepare-requires
-    mul-build
+    (λ c. part-fits 3 tt (room-narrow (c .before .before .before .before .before .before .before .before .before .before .before .before .pre .0 .image-fits .small)))
     (λ c. zero≤)
     (λ c. zero≤)
     part-build-end
     build-requires
     loop-holds
-    mul-first
+    (λ c. part-fits 3 tt (room-narrow (c .loop .inv .some .1 .image-fits .small)))
     (λ c. zero≤)
     (λ c. zero≤)
-    part-first-end
+    (λ c. part-in 3 tt _ (c .before .loop .inv .some .1 .carried .long))
     (search needs)
-    first-requires
-    same-length
-    same-length-2
+    (λ c κs. picking (c .before .before .before .loop .inv .some .1))
+    (λ c. c .before .before .before .before .before .before .loop .inv .labels)
+    (λ c. c .before .before .before .before .before .before .loop .inv .links)
     same-length-3
     same-length-4
     returns

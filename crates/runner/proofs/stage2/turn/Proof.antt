@@ -3,7 +3,7 @@ use Prim.Native.Nat.{_+_}
 use native.Mathlib.Omega.{arith}
 use borrow.Author.Needs.{needs, zero≤}
 use Rattle.runner.proofs.Turning.{turns-left, turned}
-use Rattle.runner.proofs.Widths.{thrice-fits, thrice-in, same-long}
+use Rattle.runner.proofs.Widths.{part-fits, part-in, same-long}
 use Rattle.runner.proofs.Rooms.{long, taking-off, taken-off}
 use Rattle.runner.proofs.stage2.turn.Statement.{statement}
 use Rattle.runner.proofs.stage2.turn.Tie as tie
@@ -39,10 +39,10 @@ pub turn-spec : {M : Type 1} → statement M
 turn-spec =
     tie.close
     (tie.spec
-    (λ c. thrice-fits (c .before .before .before .before .before .fits .room))
+    (λ c. part-fits 3 tt (c .before .before .before .before .before .fits .room))
     (λ c. zero≤)
     (λ c. zero≤)
-    (λ c. thrice-in _ (long (c .before .before .before .before .before .pre .0) (c .before .before .before .before .before .pre .1 .0 .1) (c .before .before .before .before .before .pre .1 .1)))
+    (λ c. part-in 3 tt _ (long (c .before .before .before .before .before .pre .0) (c .before .before .before .before .before .pre .1 .0 .1) (c .before .before .before .before .before .pre .1 .1)))
     (search needs)
     (λ c κs. taking-off (c .before .before .before .before .before .before .before .pre .0) (c .before .before .before .before .before .before .before .pre .1 .0 .1) (c .before .before .before .before .before .before .before .pre .1 .1))
     visit-requires

@@ -2,7 +2,7 @@ use mathlib.Core.Path.{refl}
 use mathlib.Core.Bool.{true}
 use native.Mathlib.Omega.{arith}
 use Rattle.runner.proofs.Visiting.{few-turns, visit-puts, visit-whole, aims, visit-alone}
-use Rattle.runner.proofs.Widths.{five-fits, six-fits, five-offset, five-six, six-in, same-long}
+use Rattle.runner.proofs.Widths.{part-fits, part-offset, parts-rise, part-in, same-long}
 use Rattle.runner.proofs.Rooms.{can-put, put-visited, visit-scans, scanned}
 use Rattle.runner.proofs.stage2.visit.Statement.{statement}
 use Rattle.runner.proofs.stage2.visit.Tie as tie
@@ -60,12 +60,12 @@ visit-spec =
     (λ c κs. can-put (c .before .before .before .before .before .before .before .before .before .pre .0) (c .before .before .before .before .before .before .before .before .before .pre .1 .1))
     (λ c. c .before .before .isolated .kept .0)
     returns-2
-    (λ c. five-fits (c .before .before .before .before .before .before .before .before .before .before .before .fits .room))
-    (λ c. six-fits (c .before .before .before .before .before .before .before .before .before .before .before .fits .room))
-    (λ c. five-offset (c .before .before .before .before .before .before .before .before .before .before .before .fits .room))
-    (λ c. five-six (c .before .before .before .before .before .before .before .before .before .before .before .args .room))
-    (λ c. five-six (c .before .before .before .before .before .before .before .before .before .before .before .args .room))
-    (λ c. six-in _ (can-put (c .before .before .before .before .before .before .before .before .before .before .before .pre .0) (c .before .before .before .before .before .before .before .before .before .before .before .pre .1 .1) .long))
+    (λ c. part-fits 5 tt (c .before .before .before .before .before .before .before .before .before .before .before .fits .room))
+    (λ c. part-fits 6 tt (c .before .before .before .before .before .before .before .before .before .before .before .fits .room))
+    (λ c. part-offset 5 tt (c .before .before .before .before .before .before .before .before .before .before .before .fits .room))
+    (λ c. parts-rise 5 6 tt (c .before .before .before .before .before .before .before .before .before .before .before .args .room))
+    (λ c. parts-rise 5 6 tt (c .before .before .before .before .before .before .before .before .before .before .before .args .room))
+    (λ c. part-in 6 tt _ (can-put (c .before .before .before .before .before .before .before .before .before .before .before .pre .0) (c .before .before .before .before .before .before .before .before .before .before .before .pre .1 .1) .long))
     add-neighbours
     (λ c κs. visit-scans (c .before .before .before .before .before .before .before .before .before .before .before .before .before .pre .0) (c .before .before .before .before .before .before .before .before .before .before .before .before .before .pre .1 .1) (omega arith))
     isolated-requires-2

@@ -13,21 +13,12 @@ use Rattle.sheet.proofs.Bytes.{stored-length}
 use Rattle.sheet.proofs.stored.answer.Statement.{statement}
 use Rattle.sheet.proofs.stored.answer.Tie as tie
 
-returns : tie.Need-returns
-returns c = rw (store-number, ← c .before .buffers-answer .ensures, ne-eqb _ 0 (c .if1 .taken))
-
 -- the first checks are passed
 early-zero : (c : tie.Else1) → (let a = c .before .before .before .before .before .before .args in firstFailed (sizeChecks (a .w) (a .h) ++ (when 5 (short (a .w) (a .h) (length (a .labels .now)) (length (a .links .now)) (length (a .table .now)) (length (a .outputs .now)) (a .n) (a .m)) ∷ [])) ≡ 0)
 early-zero c = sym (c .before .buffers-answer .ensures) ∙ c .if1 .left
 
 can-store : (c : tie.Else1) → (let a = c .before .before .before .before .before .before .args in CanStore (a .w * a .h) (a .n) (a .m) (length (a .labels .now)) (length (a .links .now)) (length (a .table .now)) (length (a .outputs .now)))
 can-store c = buffers-accepted _ _ _ _ _ _ _ _ [] (early-zero c) .0
-
-large-requires : tie.Need-large-requires
-large-requires c κs = can-store c
-
-returns-2 : tie.Need-returns-2
-returns-2 c = rw (store-number, early-zero (c .before .before), ← c .before .large .ensures, c .if2 .taken)
 
 -- the length that is asked for
 exact : (c : tie.Else1) → (let a = c .before .before .before .before .before .before .args in 2 * length (storedNumbers (a .w) (a .h) (a .labels .now) (a .links .now) (a .table .now) (a .outputs .now) (a .n) (a .m)) ≡ 8 + 4 * (a .w * a .h) + 4 * a .n + 2 * a .m)
@@ -48,9 +39,9 @@ answer-spec =
     tie.close
     (tie.spec
     (search needs)
-    returns
-    large-requires
-    returns-2
+    (λ c. rw (store-number, ← c .before .buffers-answer .ensures, ne-eqb _ 0 (c .if1 .taken)))
+    (λ c κs. can-store c)
+    (λ c. rw (store-number, early-zero (c .before .before), ← c .before .large .ensures, c .if2 .taken))
     (λ c. omega (arith, can-store (c .before .before)))
     (λ c. omega (arith, can-store (c .before .before)))
     (λ c. omega (arith, can-store (c .before .before)))

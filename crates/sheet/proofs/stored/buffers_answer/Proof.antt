@@ -1,4 +1,4 @@
-use mathlib.Core.Path.{_≡_, refl, sym, _∙_}
+use mathlib.Core.Path.{_≡_, sym, _∙_}
 use Prim.Native.Nat.{_*_, _≤_}
 use native.Mathlib.Omega.{arith}
 use borrow.Author.Needs.{needs}
@@ -8,18 +8,12 @@ use Rattle.rules.proofs.Accepted.{sized, sized-small}
 use Rattle.sheet.proofs.stored.buffers_answer.Statement.{statement}
 use Rattle.sheet.proofs.stored.buffers_answer.Tie as tie
 
-returns : tie.Need-returns
-returns c = rw (sized, ← c .before .size-answer .ensures, ne-eqb _ 0 (c .if1 .taken))
-
 -- the size passes
 sized-zero : (c : tie.Else1) → (let a = c .before .before .args in firstFailed (sizeChecks (a .w) (a .h)) ≡ 0)
 sized-zero c = sym (c .before .size-answer .ensures) ∙ c .if1 .left
 
 small : (c : tie.Else1) → (let a = c .before .before .args in a .w * a .h ≤ limit)
 small c = sized-small _ _ (sized-zero c)
-
-short-requires : tie.Need-short-requires
-short-requires c κs = omega (arith, c .area .ensures, small (c .before))
 
 returns-2 : tie.Need-returns-2
 returns-2 c =
@@ -32,4 +26,9 @@ returns-3 c =
     rw (sized, sized-zero (s .before), ← s .area .ensures, ← c .before .short .ensures, c .if2 .left)
 
 pub buffers-answer-spec : {M : Type 1} → statement M
-buffers-answer-spec = tie.close (tie.spec (search needs) returns (search needs) short-requires returns-2 returns-3)
+buffers-answer-spec =
+    tie.close
+    (tie.spec
+    (search needs)
+    (λ c. rw (sized, ← c .before .size-answer .ensures, ne-eqb _ 0 (c .if1 .taken)))
+    (search needs) (λ c κs. omega (arith, c .area .ensures, small (c .before))) returns-2 returns-3)

@@ -27,9 +27,6 @@ small c =
     let s = c .before .before .before .before .before in
     pairs-small (λ p. getD (s .args .labels .now) p 0) (λ p. getD (s .args .links .now) p 0) (s .args .size) (s .pre .3) (c .before .loop .p) (c .loop-test .taken)
 
-put-requires : tie.Need-put-requires Inv-loop μ-loop
-put-requires c κs = omega (arith, small (c .before .before))
-
 put-requires-2 : tie.Need-put-requires-2 Inv-loop μ-loop
 put-requires-2 c κs =
     let l = c .before .before .before .before .before .before .before in
@@ -55,4 +52,6 @@ returns c =
 pub put-pixels-spec : {M : Type 1} → statement M
 put-pixels-spec =
     tie.close
-    (tie.spec Inv-loop μ-loop loop-holds (search needs) (search needs) (search needs) (search needs) put-requires (search needs) (search needs) (search needs) put-requires-2 (search needs) (search needs) loop-again (λ c. c .before .loop .inv .1) returns)
+    (tie.spec
+    Inv-loop μ-loop loop-holds (search needs) (search needs) (search needs) (search needs) (λ c κs. omega (arith, small (c .before .before))) (search needs)
+    (search needs) (search needs) put-requires-2 (search needs) (search needs) loop-again (λ c. c .before .loop .inv .1) returns)

@@ -26,15 +26,4 @@ returns-3 c =
     rw (sym (b .before .is-empty .ensures) ∙ b .if1 .left, sym (a .before .is-empty2 .ensures) ∙ a .if2 .left) (four (c .before .before .before .min .ensures) (c .before .before .min2 .ensures) (c .before .max .ensures) (c .max2 .ensures))
 
 pub merge-spec : {M : Type 1} → statement M
-merge-spec =
-    tie.close
-    (tie.spec
-    (search needs)
-    returns
-    (search needs)
-    returns-2
-    (search needs)
-    (search needs)
-    (search needs)
-    (search needs)
-    returns-3)
+merge-spec = tie.close (tie.spec (search needs) returns (search needs) returns-2 (search needs) (search needs) (search needs) (search needs) returns-3)

@@ -14,9 +14,6 @@ use Rattle.runner.proofs.Slots.{head-is}
 use Rattle.runner.proofs.slot.Head.with_pixel.Statement.{statement}
 use Rattle.runner.proofs.slot.Head.with_pixel.Tie as tie
 
-plus-requires : tie.Need-plus-requires
-plus-requires c κs = rw (c .one .ensures) (c .before .before .before .before .pre .4)
-
 returns : tie.Need-returns
 unfolding withPixel firstOf
 returns c = λ k e.
@@ -34,11 +31,4 @@ returns c = λ k e.
 pub with-pixel-spec : {M : Type 1} → statement M
 with-pixel-spec =
     tie.close
-    (tie.spec
-    (search needs)
-    (search needs)
-    (search needs)
-    (search needs)
-    (search needs)
-    plus-requires
-    returns)
+    (tie.spec (search needs) (search needs) (search needs) (search needs) (search needs) (λ c κs. rw (c .one .ensures) (c .before .before .before .before .pre .4)) returns)
