@@ -75,42 +75,33 @@ first-either a b = before-antisym (firstOf a b) (firstOf b a) (come (firstOf a b
 module _ (a b : Entry) (la : a .slot < 4294967296) (lb : b .slot < 4294967296) where
   pub rank-before : rankOf a < rankOf b → a ≡ firstOf a b
   unfolding firstOf
-  rank-before l = go (decLt (a .key) (b .key))
-    where
-      go : Dec (a .key < b .key) → a ≡ (if ltb (a .key) (b .key) then a else if ltb (b .key) (a .key) then b else if ltb (a .slot) (b .slot) then a else b)
-      go (yes y) = rw (lt-ltb (a .key) (b .key) y)
-      go (no y) = rw (le-ltb (a .key) (b .key) (omega arith), le-ltb (b .key) (a .key) (omega arith), lt-ltb (a .slot) (b .slot) (omega arith))
+  rank-before l = by-cases (decLt (a .key) (b .key)) (λ y. rw (lt-ltb (a .key) (b .key) y))
+      (λ y. rw (le-ltb (a .key) (b .key) (omega arith), le-ltb (b .key) (a .key) (omega arith), lt-ltb (a .slot) (b .slot) (omega arith)))
 
   pub rank-after : rankOf b ≤ rankOf a → b ≡ firstOf a b
   unfolding firstOf
-  rank-after l = go (decLt (b .key) (a .key))
-    where
-      go : Dec (b .key < a .key) → b ≡ (if ltb (a .key) (b .key) then a else if ltb (b .key) (a .key) then b else if ltb (a .slot) (b .slot) then a else b)
-      go (yes y) = rw (le-ltb (a .key) (b .key) (omega arith), lt-ltb (b .key) (a .key) y)
-      go (no y) = rw (le-ltb (a .key) (b .key) (omega arith), le-ltb (b .key) (a .key) (omega arith), le-ltb (a .slot) (b .slot) (omega arith))
+  rank-after l = by-cases (decLt (b .key) (a .key)) (λ y. rw (le-ltb (a .key) (b .key) (omega arith), lt-ltb (b .key) (a .key) y))
+      (λ y. rw (le-ltb (a .key) (b .key) (omega arith), le-ltb (b .key) (a .key) (omega arith), le-ltb (a .slot) (b .slot) (omega arith)))
 
 -- ---- positions
 
--- the position beside x is in the tree
+-- the position beside x: the other child of the node above, which is in the tree
+module _ (x : ℕ) (P : ℕ → Type 0) where
+  beside : (x ≡ 2 * (x / 2) → P (x + 1)) → (x ≡ 2 * (x / 2) + 1 → P (x - 1)) → P (besideOf x)
+  beside f g = go (eqb (x % 2) 0) refl
+    where
+      go : (t : Bool) → eqb (x % 2) 0 ≡ t → P (if t then x + 1 else x - 1)
+      go true e = f (omega (arith, eqb-true (x % 2) 0 e))
+      go false e = g (omega (arith, eqb-false (x % 2) 0 e))
+
 pub beside-in : (n x : ℕ) → 1 < x → x < 2 * n → besideOf x < 2 * n
-beside-in n x l b = go (eqb (x % 2) 0) refl
-  where
-    go : (t : Bool) → eqb (x % 2) 0 ≡ t → (if t then x + 1 else x - 1) < 2 * n
-    go true e = omega (arith, eqb-true (x % 2) 0 e)
-    go false e = omega arith
+beside-in n x l b = beside x (λ y. y < 2 * n) (λ e. omega arith) (λ e. omega arith)
 
 -- an entry and the one beside it are the children of the node above
 pub first-beside : (queue : List ℕ) (n room x : ℕ) → firstOf (entryAt queue n room x) (entryAt queue n room (besideOf x)) ≡ firstBelow queue n room (x / 2)
-first-beside queue n room x = go (eqb (x % 2) 0) refl
-  where
-    go : (t : Bool) → eqb (x % 2) 0 ≡ t → firstOf (entryAt queue n room x) (entryAt queue n room (if t then x + 1 else x - 1)) ≡ firstBelow queue n room (x / 2)
-    go true e =
-        let z : x ≡ 2 * (x / 2) = omega (arith, eqb-true (x % 2) 0 e) in
-        ap (λ y. firstOf (entryAt queue n room y) (entryAt queue n room (y + 1))) z
-    go false e =
-        let z : x - 1 ≡ 2 * (x / 2) = omega (arith, eqb-false (x % 2) 0 e) in
-        let y : x ≡ 2 * (x / 2) + 1 = omega (arith, eqb-false (x % 2) 0 e) in
-        first-either (entryAt queue n room x) (entryAt queue n room (x - 1)) ∙ ap₂ (λ i j. firstOf (entryAt queue n room i) (entryAt queue n room j)) z y
+first-beside queue n room x = beside x (λ y. firstOf (entryAt queue n room x) (entryAt queue n room y) ≡ firstBelow queue n room (x / 2))
+    (λ e. ap (λ y. firstOf (entryAt queue n room y) (entryAt queue n room (y + 1))) e)
+    (λ e. let z : x - 1 ≡ 2 * (x / 2) = omega arith in first-either (entryAt queue n room x) (entryAt queue n room (x - 1)) ∙ ap₂ (λ i j. firstOf (entryAt queue n room i) (entryAt queue n room j)) z e)
 
 module _ (queue : List ℕ) (n room x : ℕ) where
   pub at-leaf : n ≤ x → entryAt queue n room x ≡ leaf queue (x - n)
