@@ -12,6 +12,7 @@ pub mod Painting
 pub mod Connected
 pub mod Outputs
 pub mod Pictures
+pub mod Pixels
 pub mod Bounds
 pub mod Chains
 pub mod Moments
