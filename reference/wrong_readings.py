@@ -9,7 +9,7 @@ admits any more, and the program `replay` is run on it without proof (`rt try`):
 first edit the copy is run as it stands, and must not differ.
 
 Up to RT_JOBS edits (the machine's processors) are tried at a time. Prints a line for each reading. Exit status: 0 all are caught, 1 one is not, 2 an edit cannot be tried: its `old:` text is not in the file
-exactly once, or the code does not compile.
+exactly once, or the code does not compile or does not come to its end.
 """
 import os
 import pathlib
@@ -70,7 +70,7 @@ def copy(folder):
 
 
 def replay(folder):
-    """What `replay` printed, or how it ended instead."""
+    """What `replay` printed."""
     done = subprocess.run(["rt", "try", "replay"], cwd=folder, capture_output=True, text=True, timeout=SECONDS)
     said = done.stdout + done.stderr
     if BUILD not in said:
@@ -79,19 +79,16 @@ def replay(folder):
     if f"ok: {BUILD}" in said:
         return right
     how = re.search(rf"FAIL: {BUILD} (.*)\n(?:on standard output, at byte (\d+), .* found \"(.*)\")?", said)
-    if how is None:
-        raise BadEdit("what it says is not understood: " + said[:2000])
-    if how[2] is None or "cases" not in right[:int(how[2])] + how[3]:
-        return how[1]
-    return right[:int(how[2])] + how[3].replace("\\n", "\n")
+    printed = right[:int(how[2])] + how[3] if how and how[2] else ""
+    if "sheets at the edges" not in printed:
+        raise BadEdit("it does not come to its end: " + (how[1] if how else said[:2000]))
+    return printed
 
 
 def outcome(printed):
     """Whether an edit is caught, and by what."""
-    counts = [int(n) for n in re.findall(r"(\d+) (?:skipped|differ|wrong|bytes)", printed)]
-    if not counts:
-        return True, f"it {printed}"
-    skipped, differ, left, runs, sheets = counts
+    counts = re.findall(r"(\d+) (?:skipped|differ|wrong|bytes)", printed)
+    skipped, differ, left, runs, sheets = (int(count) for count in counts)
     found = [f"{differ} recorded cases differ"] if differ else []
     found += [f"{skipped} cases cannot be read"] if skipped or left else []
     found += [f"{runs + sheets} calls at the edges of the refusals are wrong"] if runs + sheets else []
