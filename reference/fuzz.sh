@@ -17,22 +17,6 @@ say() {
     echo "fuzz: $*"
 }
 
-# install PACKAGE..: installs those Debian packages that are missing.
-install() {
-    missing=
-    for package in "$@"; do
-        status=$(dpkg-query --show --showformat='${db:Status-Status}' "$package" 2>/dev/null) || status=
-        [ "$status" = installed ] || missing="$missing $package"
-    done
-    [ -n "$missing" ] || return 0
-    say "installing$missing"
-    as_root=
-    [ "$(id -u)" = 0 ] || as_root=sudo
-    $as_root apt-get update -qq
-    # shellcheck disable=SC2086 # the names are words of their own
-    $as_root env DEBIAN_FRONTEND=noninteractive apt-get install -qq -y --no-install-recommends $missing >/dev/null
-}
-
 # linked FOLDER NAME: links all of the toolchain's FOLDER into $kit but NAME.
 linked() {
     mkdir -p "$kit/$1"
@@ -44,6 +28,7 @@ linked() {
 seconds=${1:-1800}
 [ $# -eq 0 ] || shift
 cd "$(dirname "$0")/.."
+. reference/packages.sh
 install clang-14 libclang-rt-14-dev
 
 out=$PWD/target/fuzz

@@ -14,13 +14,8 @@ say() {
 }
 
 cd "$(dirname "$0")"
-if ! command -v valgrind >/dev/null; then
-    say "installing valgrind"
-    as_root=
-    [ "$(id -u)" = 0 ] || as_root=sudo
-    $as_root apt-get update -qq
-    $as_root env DEBIAN_FRONTEND=noninteractive apt-get install -qq -y --no-install-recommends valgrind >/dev/null
-fi
+. ./packages.sh
+install valgrind
 
 # A wide zone around each block: also what lies far beyond one is no other block.
 valgrind --error-exitcode=3 --redzone-size=4096 --leak-check=no \

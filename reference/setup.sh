@@ -10,36 +10,15 @@ say() {
     echo "setup: $*"
 }
 
-# install PACKAGE..: installs those Debian packages that are missing.
-install() {
-    missing=
-    for package in "$@"; do
-        status=$(dpkg-query --show --showformat='${db:Status-Status}' "$package" 2>/dev/null) || status=
-        [ "$status" = installed ] || missing="$missing $package"
-    done
-    if [ -z "$missing" ]; then
-        say "Debian packages are there: $*"
-        return
-    fi
-    say "installing$missing"
-    as_root=
-    [ "$(id -u)" = 0 ] || as_root=sudo
-    $as_root apt-get update -qq
-    # shellcheck disable=SC2086 # the names are words of their own
-    $as_root env DEBIAN_FRONTEND=noninteractive apt-get install -qq -y --no-install-recommends $missing >/dev/null
-}
-
 if [ -n "${VISIONCORTEX_SRC:-}" ]; then
     VISIONCORTEX_SRC=$(realpath -m "$VISIONCORTEX_SRC")
     export VISIONCORTEX_SRC
 fi
 cd "$(dirname "$0")"
+. ./packages.sh
 
 install librust-bit-vec-dev
-if ! command -v cargo >/dev/null; then
-    # Debian 12's own cargo is too old; this is its newer one.
-    install cargo-web
-fi
+install_cargo
 say "$(cargo --version)"
 
 original=${VISIONCORTEX_SRC:-../../shared/docs/src}

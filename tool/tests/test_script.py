@@ -29,11 +29,12 @@ class Script(Case):
     def setUp(self):
         super().setUp()
         self.root = self.folder / "repository"
-        for folder in ["tool/src", "tool/.cargo", "crates/rules/src", "crates/rules/specs"]:
+        for folder in ["tool/src", "tool/.cargo", "reference", "crates/rules/src", "crates/rules/specs"]:
             (self.root / folder).mkdir(parents=True)
         for file in FILES:
             (self.root / file).write_text("")
-        shutil.copy(ROOT / "sheet", self.root / "sheet")
+        for script in ["sheet", "reference/packages.sh"]:
+            shutil.copy(ROOT / script, self.root / script)
         programs = self.folder / "programs"
         programs.mkdir()
         for name, text in STAND_INS.items():
