@@ -1,7 +1,7 @@
 -- A scan with marks finds the neighbours of the rules: each label once, their number, and the least by difference and number. Assumes nothing.
 use mathlib.Core.Path.{_≡_, refl, sym, ap, ap₂, _∙_, subst}
 use mathlib.Core.Logic.{_≢_, _⊎_, inl, inr}
-use mathlib.Core.Bool.{Bool, true, false, _&&_, _||_}
+use mathlib.Core.Bool.{Bool, true, false, _&&_, _||_, or-true}
 use mathlib.Core.List.{List, [], _∷_, map}
 use mathlib.Core.Option.{Option, some}
 use mathlib.Core.Option.{none as off}
@@ -152,10 +152,6 @@ unfolding neighbours rank
 neighbours-nearest w h s k labels links table a b c d e =
     rw (a, b, c) (nearest-same (diffAt table k) (rank s k) (labelsAround w h (s .labels) k (cluster s k .pixels) [])
     (in-all (λ l. diffAt table k l ≡ rank s k l) (labelsAround w h (s .labels) k (cluster s k .pixels) []) (λ l i. ap₂ (λ x y. colorDiff (average x) (average y)) d (e l (rw c i)))))
-
-or-true : (b : Bool) → b || true ≡ true
-or-true true = refl
-or-true false = refl
 
 -- ---- a label noted
 

@@ -1,7 +1,7 @@
 -- The steps of stage 1 on the buffers: a pixel is placed, two clusters meet, a pixel is taken.
 use mathlib.Core.Path.{_≡_, refl, sym, ap, ap₂, _∙_, subst}
 use mathlib.Core.Logic.{_≢_}
-use mathlib.Core.Bool.{Bool, true, false, not, _&&_, true≢false}
+use mathlib.Core.Bool.{Bool, true, false, not, _&&_, true≢false, and-false}
 use mathlib.Core.List.{List, [], _∷_, _++_}
 use mathlib.Core.Option.{Option, some}
 use mathlib.Core.Option.{none as off}
@@ -30,10 +30,6 @@ use Rattle.runner.specs.Stage1.{Holding, meets, aim, aimed, isNowhere, O
 use Rattle.runner.proofs.RepStage1.{rep-fresh, rep-lower, labels-long}
 use Rattle.runner.proofs.Spots.{spot-in, left-earlier, up-earlier}
 use Rattle.runner.proofs.Stage1Laws.{rep-is, at-is, in-table, next-in, slot-in, few, count-of, can-add, can-begin, rep-added, rep-begun, can-append, rep-combined}
-
-and-off : (b : Bool) → b && false ≡ false
-and-off true = refl
-and-off false = refl
 
 module _ {o : RunnerConfig} {w h : ℕ} {image : List ℕ} {shift i x y l u : ℕ} {s : State} {t₀ L K B E : List ℕ} {n m : ℕ} (P : Placing o w h image shift i x y l u s t₀ L K B E n m) where
   module _ {c : Color} (e : c ≡ pixel image i) where
@@ -119,7 +115,7 @@ module _ {o : RunnerConfig} {w h : ℕ} {image : List ℕ} {shift i x y l u : �
         go false b true true r e₁ e₂ e₃ e₄ e₅ z s₁ s₂ s₃ s₄ = held (place-is false b true _ e₁ e₂ (ap₂ _&&_ e₄ e₃) refl) s₃ s₄ (held-add e u (P .to-up) (added s₁ s₂))
         go false b true false true e₁ e₂ e₃ e₄ e₅ z s₁ s₂ s₃ s₄ = held (place-is false b false true e₁ e₂ (ap₂ _&&_ e₄ e₃) (ap₂ _&&_ e₅ e₃)) s₃ s₄ (held-add e l (P .to-left) (added s₁ s₂))
         go false b true false false e₁ e₂ e₃ e₄ e₅ z s₁ s₂ s₃ s₄ = held (place-is false b false false e₁ e₂ (ap₂ _&&_ e₄ e₃) (ap₂ _&&_ e₅ e₃)) s₃ s₄ (held-begin e (added s₁ s₂))
-        go false b false q r e₁ e₂ e₃ e₄ e₅ z s₁ s₂ s₃ s₄ = held (place-is false b false false e₁ e₂ (ap₂ _&&_ e₄ e₃ ∙ and-off q) (ap₂ _&&_ e₅ e₃ ∙ and-off r)) s₃ s₄ (held-begin e (added s₁ s₂))
+        go false b false q r e₁ e₂ e₃ e₄ e₅ z s₁ s₂ s₃ s₄ = held (place-is false b false false e₁ e₂ (ap₂ _&&_ e₄ e₃ ∙ and-false q) (ap₂ _&&_ e₅ e₃ ∙ and-false r)) s₃ s₄ (held-begin e (added s₁ s₂))
 
 -- ---- two clusters meet
 
