@@ -142,7 +142,8 @@ abbrev pub Earlier : ℕ → Option ℕ → Type 0
 Earlier i (some j) = j < i
 Earlier i off = Unit {0}
 
-left-earlier : (w i : ℕ) → 0 < w → Earlier i (left w i)
+-- left and up come before
+pub left-earlier : (w i : ℕ) → 0 < w → Earlier i (left w i)
 unfolding left
 left-earlier w i pos = pick (ltb 0 (i % w)) refl
   where
@@ -150,7 +151,7 @@ left-earlier w i pos = pick (ltb 0 (i % w)) refl
     pick true e = let l : 0 < i % w = ltb-true 0 (i % w) e in omega (arith, mod-le i w)
     pick false e = tt
 
-up-earlier : (w i : ℕ) → 0 < w → Earlier i (up w i)
+pub up-earlier : (w i : ℕ) → 0 < w → Earlier i (up w i)
 unfolding up
 up-earlier w i pos = pick (leb w i) refl
   where
@@ -287,6 +288,17 @@ module _ {image : List ℕ} {size : ℕ} {Gone : ℕ → Type 0} {Keyed : Type 0
       pick (no d) = by-cases (T-dec (ltb (label s p) (s .next)))
           (λ z. ltb→lt (label s p) (s .next) z)
           (λ z. absurd (E .free (label s p) p (nltb→le (label s p) (s .next) (not-T (ltb (label s p) (s .next)) z)) (E .basic .shown p d)))
+
+  pub labelAt-next : {i : ℕ} {s : State} → Early image size Gone Keyed i s → (q : Option ℕ) → labelAt s q < s .next
+  unfolding labelAt
+  labelAt-next {i} {s} E (some p) = label-next i p s E
+  labelAt-next E off = E .some
+
+  -- a place that is like pixel i, and comes before it, has label 0 only with keying on
+  pub like-lit : (o : RunnerConfig) {i : ℕ} {s : State} → Early image size Gone Keyed i s → (q : Option ℕ) → Earlier i q → sameAt o image (some i) q ≡ true → labelAt s q ≡ 0 → Keyed
+  unfolding sameAt labelAt
+  like-lit o E (some j) b e z = E .lit j b z
+  like-lit o E off b e z = absurd (true≢false (sym e))
 
   -- in stage 1 no two clusters share a pixel
   pub flats-apart : {i : ℕ} {s : State} → Early image size Gone Keyed i s → (f t : ℕ) → f ≢ t → (p : ℕ) → T (ledger (s .log) t p) → T (ledger (s .log) f p) → ⊥
@@ -455,11 +467,6 @@ module _ {image : List ℕ} {size : ℕ} {Gone : ℕ → Type 0} {Keyed : Type 0
         pick false e d z false ex true ey = add-early E fits (add-adds i l at s E hl) (zl (both-true _ _ ey .0)) (plain-pixel e)
         pick false e d z false ex false ey = add-early E fits (beginCluster-adds i at s E) (λ z₀. absurd (omega (arith, E .some))) (plain-pixel e)
 
-    labelAt-next : (i : ℕ) (s : State) (p : Option ℕ) → Early image size Gone Keyed i s → labelAt s p < s .next
-    unfolding labelAt
-    labelAt-next i s (some p) E = label-next i p s E
-    labelAt-next i s off E = E .some
-
     combine-place : (i l u : ℕ) (s : State) → Early image size Gone Keyed i s → i < size → l ≢ u → l < s .next → u < s .next → (l ≡ 0 → Keyed) → (u ≡ 0 → Keyed)
         → Early image size Gone Keyed (suc i) (combineThenPlace o w image i l u s)
     unfolding combineThenPlace
@@ -470,12 +477,6 @@ module _ {image : List ℕ} {size : ℕ} {Gone : ℕ → Type 0} {Keyed : Type 0
             let L = lower-early o w i l u (combine l u s) (combine-early i l u s E n hl hu zu) n hu (combine-empty i l u s E n hl hu zu) in
             place-early i u u (lowerNext l (combine l u s)) (L .0) fits (L .1) (L .1) (λ x. zu) (λ x. zu)
         pick false = place-early i l l (combine u l s) (combine-early i u l s E (λ e. n (sym e)) hu hl zl) fits hl hl (λ x. zl) (λ x. zl)
-
-    -- a place beside pixel i that is like it is on the image, and was taken before
-    like-lit : (i : ℕ) (s : State) → Early image size Gone Keyed i s → (q : Option ℕ) → Earlier i q → sameAt o image (some i) q ≡ true → labelAt s q ≡ 0 → Keyed
-    unfolding sameAt labelAt
-    like-lit i s E (some j) b e z = E .lit j b z
-    like-lit i s E off b e z = absurd (true≢false (sym e))
 
     pub take-early : (i : ℕ) (s : State) → Early image size Gone Keyed i s → i < size → Early image size Gone Keyed (suc i) (takePixel o w image i s)
     unfolding takePixel
@@ -488,10 +489,10 @@ module _ {image : List ℕ} {size : ℕ} {Gone : ℕ → Type 0} {Keyed : Type 0
         u = labelAt s (up w i)
 
         pl : sameAt o image (some i) (left w i) ≡ true → l ≡ 0 → Keyed
-        pl = like-lit i s E (left w i) (left-earlier w i (wide i fits))
+        pl = like-lit o E (left w i) (left-earlier w i (wide i fits))
 
         pu : sameAt o image (some i) (up w i) ≡ true → u ≡ 0 → Keyed
-        pu = like-lit i s E (up w i) (up-earlier w i (wide i fits))
+        pu = like-lit o E (up w i) (up-earlier w i (wide i fits))
 
         differ : leftMeetsUp o w image i s ≡ true → l ≢ u
         differ e x = true≢false (sym e ∙ ap (λ b. not b && sameAt o image (left w i) (up w i) && sameAt o image (some i) (left w i) && sameAt o image (some i) (up w i)) (eqb-yes l u x))
@@ -500,8 +501,8 @@ module _ {image : List ℕ} {size : ℕ} {Gone : ℕ → Type 0} {Keyed : Type 0
         pick true e =
             let f = not (eqb l u) && sameAt o image (left w i) (up w i) in
             let r = both-true (f && sameAt o image (some i) (left w i)) (sameAt o image (some i) (up w i)) e in
-            combine-place i l u s E fits (differ e) (labelAt-next i s (left w i) E) (labelAt-next i s (up w i) E) (pl (both-true f (sameAt o image (some i) (left w i)) (r .0) .1)) (pu (r .1))
-        pick false e = place-early i l u s E fits (labelAt-next i s (left w i) E) (labelAt-next i s (up w i) E) pl pu
+            combine-place i l u s E fits (differ e) (labelAt-next E (left w i)) (labelAt-next E (up w i)) (pl (both-true f (sameAt o image (some i) (left w i)) (r .0) .1)) (pu (r .1))
+        pick false e = place-early i l u s E fits (labelAt-next E (left w i)) (labelAt-next E (up w i)) pl pu
 
     pub taken-early : Early image size Gone Keyed 0 (fresh size) → (n : ℕ) → n ≤ size → Early image size Gone Keyed n (taken o w image size n)
     unfolding taken

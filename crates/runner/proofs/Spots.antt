@@ -1,30 +1,30 @@
 -- The pixel at column x, row y, and the pixels beside it.
 use mathlib.Core.Path.{_≡_, refl, sym, ap, _∙_}
+use mathlib.Core.Logic.{by-cases}
 use mathlib.Core.Bool.{Bool, true, false}
 use mathlib.Core.List.{List}
 use mathlib.Core.Option.{Option, none, some}
 use Prim.Native.Nat.{ℕ, _+_, _-_, _*_, _/_, _%_, _≤_, _<_}
-use native.Mathlib.Nat.{mul-comm, mul-add-mod-self-left, mul-add-div, mod-eq-of-lt, mod-eq-sub-mod, div-eq-of-lt, lt-div-mul-add, mul-le-mul-left, mod-le, le-mul-of-pos-right}
+use native.Mathlib.Nat.{mul-comm, mul-add-mod-self-left, mul-add-div, mod-eq-of-lt, mod-eq-sub-mod, div-eq-of-lt, lt-div-mul-add, mul-le-mul-left, le-mul-of-pos-right}
 use native.Mathlib.Decide.{decLt}
 use native.Mathlib.Omega.{arith}
-use borrow.Author.Tests.{lt-ltb, le-ltb, le-leb, lt-leb, ltb-true, leb-true}
-use lib.Dec.{ltb, leb}
+use borrow.Author.Tests.{lt-ltb, le-ltb, le-leb, lt-leb}
+use lib.Dec.{ltb}
 use lib.ListN.{length}
 use Rattle.rules.specs.Base.{if_then_else_}
 use Rattle.rules.specs.Color.{Color, RunnerConfig, pixel}
 use Rattle.rules.specs.Grid.{up, left, upLeft}
 use Rattle.rules.specs.Stage1.{colorAt}
-use Rattle.rules.proofs.Early.{Earlier}
 use Rattle.runner.specs.Stage1.{Given, Spot, At}
 use Rattle.runner.proofs.Places.{place-in}
 
 -- a pixel of the image is in one of its rows
 pub spot-of : {w h i x y : ℕ} → i ≡ w * y + x → x < w → i < w * h → Spot w h i x y
-spot-of {w} {h} {i} {x} {y} e l b = record { index = e; column = l; row = go (decLt y h) }
-  where
-    go : Dec (y < h) → y < h
-    go (yes z) = z
-    go (no z) = let g : h ≤ y = omega arith in absurd (omega (arith, mul-le-mul-left w g))
+spot-of {w} {h} {i} {x} {y} e l b = record {
+  index = e;
+  column = l;
+  row = by-cases (decLt y h) (λ z. z) (λ z. let g : h ≤ y = omega arith in absurd (omega (arith, mul-le-mul-left w g)));
+}
 
 module _ {w h i x y : ℕ} (S : Spot w h i x y) where
   pub spot-column : i % w ≡ x
@@ -35,23 +35,6 @@ module _ {w h i x y : ℕ} (S : Spot w h i x y) where
 
   pub spot-in : i < w * h
   spot-in = omega (arith, S .index, place-in w h x y (S .column) (S .row), mul-comm w y)
-
-  -- left and up come before
-  pub left-earlier : Earlier i (left w i)
-  unfolding left
-  left-earlier = pick (ltb 0 (i % w)) refl
-    where
-      pick : (b : Bool) → ltb 0 (i % w) ≡ b → Earlier i (if b then some (i - 1) else none)
-      pick true e = omega (arith, ltb-true 0 (i % w) e, mod-le i w)
-      pick false e = tt
-
-  pub up-earlier : Earlier i (up w i)
-  unfolding up
-  up-earlier = pick (leb w i) refl
-    where
-      pick : (b : Bool) → leb w i ≡ b → Earlier i (if b then some (i - w) else none)
-      pick true e = omega (arith, leb-true w i e, S .column)
-      pick false e = tt
 
 module _ {o : RunnerConfig} {w h : ℕ} {image : List ℕ} {shift i x y : ℕ} (G : Given o w h image shift) (S : Spot w h i x y) where
   -- a column and a row are small
@@ -77,11 +60,7 @@ module _ (w i : ℕ) where
   first-row-in l e = omega (arith, lt-div-mul-add {a = i} l, ap (λ m. m * w) e)
 
   pub later-row : 0 < i / w → w ≤ i
-  later-row l = go (decLt i w)
-    where
-      go : Dec (i < w) → w ≤ i
-      go (yes a) = absurd (omega (arith, div-eq-of-lt a))
-      go (no a) = omega arith
+  later-row l = by-cases (decLt i w) (λ a. absurd (omega (arith, div-eq-of-lt a))) (λ a. omega arith)
 
   pub left-none : i % w ≡ 0 → left w i ≡ none
   unfolding left

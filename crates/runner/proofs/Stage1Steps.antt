@@ -19,7 +19,7 @@ use Rattle.rules.specs.Run.{stage1}
 use Rattle.rules.specs.Demand3.{Discarded}
 use Rattle.rules.proofs.Facts.{eqb-yes}
 use Rattle.rules.proofs.Basic.{combine-moved}
-use Rattle.rules.proofs.Early.{Early, Earlier, label-next, combine-early, combine-empty, lower-early}
+use Rattle.rules.proofs.Early.{Early, left-earlier, up-earlier, labelAt-next, like-lit, combine-early, combine-empty, lower-early}
 use Rattle.rules.proofs.Whole.{early-at}
 use Rattle.runner.specs.declared.stage1.Into.{Into}
 use Rattle.runner.specs.declared.stage1.Into.the-variants.{Nowhere, Zero, Up, Left, Fresh}
@@ -28,7 +28,7 @@ use Rattle.runner.specs.Rep.{Rep}
 use Rattle.runner.specs.Ops.{CanAdd, Added, CanAppend, Combined}
 use Rattle.runner.specs.Stage1.{Holding, meets, aim, aimed, isNowhere, Opened, slotFor, tableFor, nextFor, countFor, Placing, Meeting, Sided, Taking}
 use Rattle.runner.proofs.RepStage1.{rep-fresh, rep-lower, labels-long}
-use Rattle.runner.proofs.Spots.{spot-in, left-earlier, up-earlier}
+use Rattle.runner.proofs.Spots.{spot-in}
 use Rattle.runner.proofs.Stage1Laws.{rep-is, at-is, in-table, next-in, slot-in, few, count-of, can-add, can-begin, rep-added, rep-begun, can-append, rep-combined}
 
 module _ {o : RunnerConfig} {w h : ℕ} {image : List ℕ} {shift i x y l u : ℕ} {s : State} {t₀ L K B E : List ℕ} {n m : ℕ} (P : Placing o w h image shift i x y l u s t₀ L K B E n m) where
@@ -206,18 +206,6 @@ module _ {o : RunnerConfig} {w h : ℕ} {image : List ℕ} {shift i x y l u : �
 
 -- ---- a pixel is taken
 
-module _ {image : List ℕ} {size : ℕ} {Gone : ℕ → Type 0} {Keyed : Type 0} {i : ℕ} {s : State} (H : Early image size Gone Keyed i s) where
-  label-below : (q : Option ℕ) → labelAt s q < s .next
-  unfolding labelAt
-  label-below (some j) = label-next i j s H
-  label-below off = H .some
-
-  -- a place that is like pixel i, and comes before it, has label 0 only with keying on
-  like-keyed : (o : RunnerConfig) (q : Option ℕ) → Earlier i q → sameAt o image (some i) q ≡ true → labelAt s q ≡ 0 → Keyed
-  unfolding sameAt labelAt
-  like-keyed o (some j) b e z = H .lit j b z
-  like-keyed o off b e z = absurd (true≢false (sym e))
-
 module _ (o : RunnerConfig) (w : ℕ) (image : List ℕ) where
   take-is : (i : ℕ) (s : State) (b : Bool) → meets o w image i (labelAt s (left w i)) (labelAt s (up w i)) ≡ b
       → (if b then combineThenPlace o w image i (labelAt s (left w i)) (labelAt s (up w i)) s else place o w image i (labelAt s (left w i)) (labelAt s (up w i)) s) ≡ takePixel o w image i s
@@ -252,8 +240,8 @@ module _ {o : RunnerConfig} {w h : ℕ} {image : List ℕ} {shift i x y : ℕ} {
       early = early;
       holding = Q .holding;
       room = Q .room;
-      to-left = rw to-left (label-below early (left w i));
-      to-up = rw to-up (label-below early (up w i));
+      to-left = rw to-left (labelAt-next early (left w i));
+      to-up = rw to-up (labelAt-next early (up w i));
     }
 
     pub take-meeting : meets o w image i l u ≡ true → Meeting o w h image shift i x y l u (taken o w image (w * h) i) t₀ L K B E n m
@@ -262,8 +250,8 @@ module _ {o : RunnerConfig} {w h : ℕ} {image : List ℕ} {shift i x y : ℕ} {
         record {
           placing = take-placing;
           differ = λ z. true≢false (sym (f .0) ∙ ap not (eqb-yes l u z));
-          left-keyed = λ z. like-keyed early o (left w i) (left-earlier (Q .spot)) (f .1) (sym to-left ∙ z);
-          up-keyed = λ z. like-keyed early o (up w i) (up-earlier (Q .spot)) (f .2) (sym to-up ∙ z);
+          left-keyed = λ z. like-lit o early (left w i) (left-earlier w i (Q .given .columns)) (f .1) (sym to-left ∙ z);
+          up-keyed = λ z. like-lit o early (up w i) (up-earlier w i (Q .given .columns)) (f .2) (sym to-up ∙ z);
         }
 
     -- the state after pixel i, by the condition
