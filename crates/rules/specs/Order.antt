@@ -6,7 +6,7 @@ use mathlib.Core.List.{List, [], _∷_, map}
 use mathlib.Core.Option.{Option, some}
 use mathlib.Core.Option.{none as off}
 use Prim.Native.Nat.{ℕ, _*_, max}
-use lib.Dec.{leb, ltb, eqb}
+use lib.Dec.{ltb, eqb}
 use lib.ListN.{length, getD, set}
 use Rattle.rules.specs.Base.{if_then_else_, times, member}
 use Rattle.rules.specs.Color.{RunnerConfig}
