@@ -36,3 +36,5 @@ pub mod Walks
 pub mod Layouts
 pub mod Paint
 pub mod Calls
+pub mod Spans
+pub mod Relabels

@@ -27,3 +27,4 @@ pub mod Viewed
 -- and the rules told for code to follow.
 pub mod Order
 pub mod Ranges
+pub mod Spans

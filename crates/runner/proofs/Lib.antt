@@ -30,3 +30,5 @@ pub mod Turning
 pub mod Visiting
 pub mod Widths
 pub mod Rooms
+pub mod SpanLaws
+pub mod Labels

@@ -73,9 +73,12 @@ module _ {o : RunnerConfig} {w h : ℕ} {image : List ℕ} {q : Queue} {k : ℕ}
     can-append = record {
       from = open-slot k own-slot (A .ready .root);
       to = open-slot t target-slot (visits.target-root a k s (going A) (some-pixels A) refl t N);
-      list = subst (λ x. T (reads (length L) K (x .first) (x .count))) (sym (head k own-slot))
-          (subst (λ n. T (reads n K (firstOf (cluster s k .pixels)) a)) (sym (rep-labels-length (going A .sound .basic) R)) (rep-reads (going A .sound .basic) R k (root-chain (going A .sound) k (A .ready .root))));
-      links = omega (arith, rep-labels-length (going A .sound .basic) R, rep-links-length (going A .sound .basic) R);
+      list = record {
+        links = omega (arith, rep-labels-length (going A .sound .basic) R, rep-links-length (going A .sound .basic) R);
+        small = omega (arith, rep-labels-length (going A .sound .basic) R, A .image-fits .small);
+        list = subst (λ x. T (reads (length L) K (x .first) (x .count))) (sym (head k own-slot))
+            (subst (λ n. T (reads n K (firstOf (cluster s k .pixels)) a)) (sym (rep-labels-length (going A .sound .basic) R)) (rep-reads (going A .sound .basic) R k (root-chain (going A .sound) k (A .ready .root))));
+      };
       sum = subst (λ x. Adds (sumOf (x .sum)) (sumOf (headAt B k .sum))) (sym (head t target-slot))
           (subst (λ x. Adds (cluster s t .sum) (sumOf (x .sum))) (sym (head k own-slot)) (adds (w * h) (A .image-fits .small) (cluster s t .sum) (cluster s k .sum) (A .ranged .sums t) (A .ranged .sums k)));
     }

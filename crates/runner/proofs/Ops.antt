@@ -36,6 +36,5 @@ module _ (B : List ℕ) (t : ℕ) (r : ColorSum) where
     from = residue-open (p .from);
     to = residue-open (p .to);
     list = rw (residue-head f) (p .list);
-    links = p .links;
     sum = rw (residue-head f, residue-head t) (p .sum);
   }

@@ -162,9 +162,12 @@ module _ {o : RunnerConfig} {w h : ℕ} {image : List ℕ} {shift i x y l u : �
     can-append = record {
       from = opens f hf;
       to = opens t ht;
-      list = subst T (sym (ap (λ z. reads (length L) K (z .first) (z .count)) (head-is f hf) ∙ ap (λ z. reads z K (firstOf (cluster s f .pixels)) (area (cluster s f))) (labels-long (P .early) (P .holding .rep))))
-          (list-reads (P .early) (P .holding .rep) f);
-      links = omega (arith, labels-long (P .early) (P .holding .rep), links-long (P .early) (P .holding .rep));
+      list = record {
+        links = omega (arith, labels-long (P .early) (P .holding .rep), links-long (P .early) (P .holding .rep));
+        small = omega (arith, labels-long (P .early) (P .holding .rep), P .given .small);
+        list = subst T (sym (ap (λ z. reads (length L) K (z .first) (z .count)) (head-is f hf) ∙ ap (λ z. reads z K (firstOf (cluster s f .pixels)) (area (cluster s f))) (labels-long (P .early) (P .holding .rep))))
+            (list-reads (P .early) (P .holding .rep) f);
+      };
       sum =
           let A = total t ht in
           let C = total f hf in

@@ -2,6 +2,7 @@
 pub mod Types
 pub mod Slots
 pub mod Rep
+pub mod Labelling
 pub mod Ops
 pub mod Queue
 pub mod Neighbours
@@ -10,3 +11,4 @@ pub mod Stage2
 pub mod Outputs
 pub mod Stage1
 pub mod Calls
+pub mod Spans

@@ -2,17 +2,17 @@
 use mathlib.Core.Path.{_≡_}
 use mathlib.Core.List.{List}
 use Prim.Native.Nat.{ℕ, _+_, _-_, _*_, _≤_, _<_}
-use lib.Dec.{T, eqb}
+use lib.Dec.{eqb}
 use lib.ListN.{length, getD, set}
 use Rattle.rules.specs.Base.{if_then_else_}
 use Rattle.rules.specs.Color.{Color, one, _⊕_}
 use Rattle.rules.specs.State.{Cluster, newCluster, withPixel, withCluster, pixelRect, relabel}
 use Rattle.rules.specs.Layout.{walk}
-use Rattle.rules.specs.Paint.{reads}
 use Rattle.color.specs.Colors.{sumOf}
 use Rattle.color.specs.declared.ColorSum.{ColorSum}
 use Rattle.runner.specs.Slots.{Adds, headAt, headOf, savedHead, residueAt, savedResidue}
 use Rattle.runner.specs.Rep.{linkAfter}
+use Rattle.runner.specs.Labelling.{CanRelabel}
 
 -- slot k can be read and written, and a pixel can be linked after its list
 pub record Open (k : ℕ) (K B E : List ℕ) : Type 0 where
@@ -38,8 +38,7 @@ pub record Added (k i x y : ℕ) (c : Color) (L K B E L′ K′ B′ E′ : List
 pub record CanAppend (f t : ℕ) (L K B E : List ℕ) : Type 0 where
   pub from : Open f K B E
   pub to : Open t K B E
-  pub list : T (reads (length L) K (headAt B f .first) (headAt B f .count))
-  pub links : length L ≤ length K
+  pub list : CanRelabel L K (headAt B f .first) (headAt B f .count)
   pub sum : Adds (sumOf (headAt B t .sum)) (sumOf (headAt B f .sum))
 
 -- the list, sum and rectangle of f are added to t's; f is as it was

@@ -6,18 +6,16 @@ ghost use Prim.Native.Nat.{_+_, _-_, _*_, _≤_, _<_};
 ghost use lib.Dec.{T, eqb};
 ghost use lib.ListN.{length, getD, set};
 ghost use Rattle.rules.specs.Base.{if_then_else_};
-ghost use Rattle.rules.specs.Layout.{walk};
-ghost use Rattle.rules.specs.Paint.{reads};
-ghost use Rattle.rules.specs.State as rules;
 ghost use Rattle.color.specs.Colors.{colorOf};
 ghost use Rattle.runner.specs.Rep.{linkAfter};
 ghost use Rattle.runner.specs.Ops.{CanAdd, Added, CanAppend, Appended, Combined, CanMerge, Merged, CanDeepen, Deepened, CanHollow, holeLink, Hollowed};
+use super::labelling;
 use super::slot;
 use super::slot::Head;
 use color::Color;
 
 // Links the list that ends at pixel tail - 1 to the pixel first - 1, where neither that list nor the one that follows is empty.
-fn link_after(links: &mut [u32], count: u32, tail: u32, first: u32)
+pub(crate) fn link_after(links: &mut [u32], count: u32, tail: u32, first: u32)
     requires { ⌜ (0 < count → (0 < tail) × (tail ≤ length (now links))) ⌝ }
     ensures { λ _. ⌜ now (links .exit) ≡ linkAfter (now (links .entry)) count tail first ⌝ }
 {
@@ -28,22 +26,6 @@ fn link_after(links: &mut [u32], count: u32, tail: u32, first: u32)
         return;
     }
     links[(tail - 1) as usize] = first;
-}
-
-// Labels the pixels of the list of count pixels from first with t.
-fn relabel(labels: &mut [u32], links: &[u32], first: u32, count: u32, t: u32)
-    requires { ⌜ length (now labels) ≤ length (now links) ⌝ }
-    requires { ⌜ T (reads (length (now labels)) (now links) first count) ⌝ }
-    ensures { λ _. ⌜ now (labels .exit) ≡ rules.relabel t (walk (λ p. getD (now (links .entry)) p 0) first count) (now (labels .entry)) ⌝ }
-{
-    let mut at = first;
-    let mut left = count;
-    while 0 < left {
-        let p = (at - 1) as usize;
-        labels[p] = t;
-        at = links[p];
-        left = left - 1;
-    }
 }
 
 // The list of t ends where the list of f, of count pixels, ends.
@@ -93,7 +75,7 @@ fn append(
 {
     let from = slot::load_head(table, f);
     let to = slot::load_head(table, t);
-    relabel(labels, links, from.first, from.count, t);
+    labelling::relabel(labels, links, from.first, from.count, t);
     link_after(links, to.count, ends[t as usize], from.first);
     move_tail(ends, f, t, from.count);
     slot::save_head(table, t, to.with_cluster(from));

@@ -6,9 +6,11 @@ mod checks;
 mod cluster;
 mod geometry;
 mod keying;
+mod labelling;
 mod outputs;
 mod queue;
 mod slot;
+mod spans;
 mod stage1;
 mod stage2;
 

@@ -15,10 +15,12 @@ ghost use Rattle.rules.specs.Stage1 as rules;
 ghost use Rattle.rules.specs.Run as run;
 ghost use Rattle.color.specs.Colors.{colorOf, optionOf};
 ghost use Rattle.runner.specs.Types.{configOf};
+ghost use Rattle.runner.specs.Spans.{Limits};
 ghost use Rattle.runner.specs.Stage1.{Given, At, Holding, meets, joined, aimed, isNowhere, Opened, Placing, Meeting, Sided, Taking, Blank};
 use super::builder;
 use super::keying;
 use super::slot;
+use super::spans;
 use crate::RunnerConfig;
 use color::ColorOrNone;
 
@@ -86,7 +88,7 @@ fn up_left_of(image: &[u8], w: u32, i: u32, x: u32, y: u32) -> ColorOrNone
 }
 
 // Whether two pixels are like under the settings, whose shift is given as a number.
-fn is_same(o: RunnerConfig, shift: u32, a: ColorOrNone, b: ColorOrNone) -> bool
+pub(crate) fn is_same(o: RunnerConfig, shift: u32, a: ColorOrNone, b: ColorOrNone) -> bool
     ensures { λ r. ⌜ ((image : List ℕ) (p q : Option ℕ) → configOf o .isSameColorA ≡ pos shift → optionOf a ≡ rules.colorAt image p → optionOf b ≡ rules.colorAt image q → r ≡ rules.sameAt (configOf o) image p q) ⌝ }
 {
     let thres = o.is_same_color_b;
@@ -380,21 +382,66 @@ fn take_pixel(
     place(image, labels, links, table, ends, o, shift, w, v, i, x, y)
 }
 
+// Next and count after a step, and how many pixels it took.
+struct Step {
+    next: u32,
+    count: u32,
+    pixels: u32,
+}
+
+// Pixel i, at column x and row y, is taken, and with it as many of the next pixels of the row as go into the same cluster at once.
+fn take_pixels(
+    image: &[u8],
+    labels: &mut [u32],
+    links: &mut [u32],
+    table: &mut [u32],
+    ends: &mut [u32],
+    o: RunnerConfig,
+    shift: u32,
+    limits: &[u8; 16],
+    w: u32,
+    s: Slots,
+    i: u32,
+    x: u32,
+    y: u32,
+) -> Step
+    requires { ⌜ ((n : ℕ) → configOf o .isSameColorB ≡ pos n → Limits n (now limits)) ⌝ }
+    requires { ⌜ ((h : ℕ) × (t₀ : List ℕ) × Taking (configOf o) w h (now image) shift i x y t₀ (now labels) (now links) (now table) (now ends) (s .next) (s .count)) ⌝ }
+    ensures { λ r. ⌜ (0 < r .pixels) × (x + r .pixels ≤ w) × ((h : ℕ) (t₀ : List ℕ) → Taking (configOf o) w h (now (image .entry)) shift i x y t₀ (now (labels .entry)) (now (links .entry)) (now (table .entry)) (now (ends .entry)) (s .next) (s .count) → Holding (w * h) (rules.taken (configOf o) w (now (image .entry)) (w * h) (i + r .pixels)) t₀ (now (labels .exit)) (now (links .exit)) (now (table .exit)) (now (ends .exit)) (r .next) (r .count)) ⌝ }
+{
+    let n = spans::span_length(image, labels, o, shift, limits, w, i, x, y);
+    if n == 0 {
+        let t = take_pixel(image, labels, links, table, ends, o, shift, w, s, i, x, y);
+        return Step {
+            next: t.next,
+            count: t.count,
+            pixels: 1,
+        };
+    }
+    let k = labels[(i - 1) as usize];
+    spans::add_span(image, labels, links, table, ends, k, i, x, y, n);
+    Step {
+        next: s.next,
+        count: s.count,
+        pixels: n,
+    }
+}
+
 // A column and a row.
 struct Cell {
     x: u32,
     y: u32,
 }
 
-// The pixel after column x, row y.
-fn cell_after(w: u32, x: u32, y: u32) -> Cell
-    requires { ⌜ (x < w) × (y < 2000000) ⌝ }
-    ensures { λ r. ⌜ (r .x < w) × ((i : ℕ) → i ≡ w * y + x → i + 1 ≡ w * r .y + r .x) ⌝ }
+// The pixel n after column x, row y, of a row that goes so far.
+fn cell_past(w: u32, x: u32, y: u32, n: u32) -> Cell
+    requires { ⌜ (0 < n) × (x + n ≤ w) × (w < 2000000) × (y < 2000000) ⌝ }
+    ensures { λ r. ⌜ (r .x < w) × ((i : ℕ) → i ≡ w * y + x → i + n ≡ w * r .y + r .x) ⌝ }
 {
-    if x + 1 == w {
+    if x + n == w {
         return Cell { x: 0, y: y + 1 };
     }
-    Cell { x: x + 1, y: y }
+    Cell { x: x + n, y: y }
 }
 
 // All pixels, row by row.
@@ -416,10 +463,11 @@ pub(crate) fn stage_1(
     slot::clear_slot(table, 0);
     let size = w * h;
     let mut s = Slots { next: 1, count: 1 };
+    let limits = spans::limits_of(o);
     let mut i = 0;
     let mut at = Cell { x: 0, y: 0 };
     while i < size {
-        s = take_pixel(
+        let t = take_pixels(
             image,
             labels,
             links,
@@ -427,14 +475,19 @@ pub(crate) fn stage_1(
             ends,
             o,
             shift,
+            &limits,
             w,
             s,
             i,
             at.x,
             at.y,
         );
-        i += 1;
-        at = cell_after(w, at.x, at.y);
+        s = Slots {
+            next: t.next,
+            count: t.count,
+        };
+        i += t.pixels;
+        at = cell_past(w, at.x, at.y, t.pixels);
     }
     s
 }

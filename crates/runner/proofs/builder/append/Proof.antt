@@ -2,17 +2,17 @@ use mathlib.Core.Path.{_≡_, ap, _∙_}
 use mathlib.Core.List.{List}
 use Prim.Native.Nat.{ℕ, _+_, _≤_, _<_}
 use native.Mathlib.Omega.{arith}
-use lib.Dec.{T, eqb}
+use lib.Dec.{eqb}
 use lib.ListN.{length, getD, set}
 use Rattle.rules.specs.Base.{if_then_else_}
 use Rattle.rules.specs.State.{Cluster, withCluster}
 use Rattle.rules.specs.State as rules
 use Rattle.rules.specs.Layout.{walk}
-use Rattle.rules.specs.Paint.{reads}
 use Rattle.color.specs.Colors.{sumOf}
 use Rattle.runner.specs.declared.slot.Head.{Head}
 use Rattle.runner.specs.Slots.{Adds, headAt, headOf, savedHead}
 use Rattle.runner.specs.Rep.{linkAfter}
+use Rattle.runner.specs.Labelling.{CanRelabel}
 use Rattle.runner.specs.Ops.{CanAppend, Appended}
 use Rattle.runner.proofs.Widths.{offset-fits}
 use Rattle.runner.proofs.builder.append.Statement.{statement}
@@ -21,8 +21,8 @@ use Rattle.runner.proofs.builder.append.Tie as tie
 -- with the heads that are loaded
 module _ {f t : ℕ} {L K B E : List ℕ} {from : Head} (given : from ≡ headAt B f) where
   -- what relabelling asks
-  asks-list : CanAppend f t L K B E → (length L ≤ length K) × T (reads (length L) K (from .first) (from .count))
-  asks-list p = rw given (p .links, p .list)
+  asks-list : CanAppend f t L K B E → CanRelabel L K (from .first) (from .count)
+  asks-list p = rw given (p .list)
 
   module _ {to : Head} (met : to ≡ headAt B t) where
     -- what linking asks

@@ -1,0 +1,94 @@
+use mathlib.Core.Path.{_≡_, refl, sym, ap, _∙_, subst}
+use mathlib.Core.Logic.{by-cases}
+use mathlib.Core.Bool.{Bool, true, false, not, true≢false}
+use mathlib.Core.List.{List}
+use Prim.Native.Nat.{ℕ, _+_, _-_, _*_, _≤_, _<_}
+use native.Mathlib.Decide.{decLt}
+use native.Mathlib.Nat.{le-mul-of-pos-right}
+use native.Mathlib.Omega.{arith}
+use borrow.Author.Count.{below-more}
+use borrow.Author.Needs.{needs}
+use lib.IntN.{pos}
+use lib.ListN.{length, getD}
+use Rattle.rules.specs.Color.{RunnerConfig}
+use Rattle.rules.specs.Spans.{Extends}
+use Rattle.rules.proofs.Spans.{same-bound}
+use Rattle.runner.specs.Types.{configOf}
+use Rattle.runner.specs.Spans.{RowRest, FoundSpan}
+use Rattle.runner.proofs.spans.span_length.Statement.{statement}
+use Rattle.runner.proofs.spans.span_length.Tie as tie
+
+abbrev Inv-loop : tie.InvT-loop
+Inv-loop image labels o shift limits w i x y k n₀ n = (x + n ≤ w) × (configOf o .isSameColorA ≡ pos shift → (j : ℕ) → j < n → Extends (configOf o) w image labels k (i + j))
+
+abbrev μ-loop : tie.MeasureT-loop
+μ-loop image labels o shift limits w i x y k n₀ n = w - x - n
+
+none : (o : RunnerConfig) (shift w : ℕ) (image L : List ℕ) (i x y : ℕ) → x < w → FoundSpan o shift w image L i x y 0
+none o shift w image L i x y l = record { within = omega arith; inner = λ z. absurd (omega arith); tests = λ e j z. absurd (omega arith) }
+
+above : (w i x y : ℕ) → i ≡ w * y + x → 0 < x → 0 < y → w + 1 ≤ i
+above w i x y e a b = omega (arith, le-mul-of-pos-right w b)
+
+not-false : (b : Bool) → not b ≡ false → b ≡ true
+not-false true e = refl
+not-false false e = absurd (true≢false e)
+
+-- the first, and those after it
+first-then : (P : ℕ → Type 0) (i r : ℕ) → P i → ((j : ℕ) → j < r → P (i + 1 + j)) → (j : ℕ) → j < 1 + r → P (i + j)
+first-then P i r f g j l = by-cases (decLt j 1) (λ z. subst P (let e : i ≡ i + j = omega (arith, z) in e) f) (λ z. subst P (let e : i + 1 + (j - 1) ≡ i + j = omega (arith, z) in e) (g (j - 1) (omega (arith, z))))
+
+-- behind the first column and the first row
+inner : (c : tie.Else2 Inv-loop μ-loop) → (let a = c .before .before .before .before .args in (0 < a .x) × (0 < a .y))
+inner c = (omega (arith, c .before .if1 .left), omega (arith, c .if2 .left))
+
+row : (c : tie.Else2 Inv-loop μ-loop) → (let a = c .before .before .before .before .args in a .w + 1 ≤ a .i)
+row c = above _ _ _ _ (c .before .before .before .before .pre .0 .index) (inner c .0) (inner c .1)
+
+loop-holds : tie.Need-loop-holds Inv-loop μ-loop
+loop-holds c =
+    let s = c .before .before .before .before .before .before .before .before in
+    let a = s .args in (
+      omega (arith, c .fours .ensures .0, s .pre .0 .column),
+      λ e.
+          let f = c .before .before .extends .ensures (not-false _ (c .before .if3 .left)) e in
+          let m = same-bound (configOf (a .o)) (a .image .now) (a .i) (a .i - a .w) (f .like-up) in
+          first-then (Extends (configOf (a .o)) (a .w) (a .image .now) (a .labels .now) (getD (a .labels .now) (a .i - 1) 0)) (a .i) (c .fours .result) f (c .fours .ensures .1 (m .0) e (m .1) (s .pre .1 (m .0) (m .1))),
+    )
+
+loop-again : tie.Need-loop-again Inv-loop μ-loop
+loop-again c =
+    let l = c .before .before .before in
+    (omega (arith, c .before .before .loop-test .taken, l .loop .inv .0, c .before .before .before .before .before .before .before .before .before .before .before .before .pre .0 .column), λ e. below-more _ _ (l .loop .inv .1 e) (c .before .extends2 .ensures (not-false _ (c .if4 .left)) e))
+
+found : (c : tie.At-loop Inv-loop μ-loop) → (let a = c .before .before .before .before .before .before .before .before .before .args in FoundSpan (configOf (a .o)) (a .shift) (a .w) (a .image .now) (a .labels .now) (a .i) (a .x) (a .y) (c .loop .n))
+found c = record { within = c .loop .inv .0; inner = λ z. inner (c .before .before .before .before .before); tests = c .loop .inv .1 }
+
+pub span-length-spec : {M : Type 1} → statement M
+span-length-spec =
+    tie.close
+    (tie.spec
+    Inv-loop
+    μ-loop
+    (λ c. none _ _ _ _ _ _ _ _ (c .before .before .before .pre .0 .column))
+    (λ c. none _ _ _ _ _ _ _ _ (c .before .before .before .before .pre .0 .column))
+    (λ c. omega (arith, row c))
+    (λ c. omega (arith, row c, c .before .before .before .before .pre .0 .small))
+    (λ c. omega (arith, row c, c .before .before .before .before .pre .0 .small))
+    (λ c. omega (arith, row (c .before), c .before .before .before .before .before .pre .0 .labels))
+    (λ c κs. let p = c .before .before .before .before .before .pre .0 in (row (c .before), omega (arith, p .labels, p .column), omega (arith, p .bytes, p .column)))
+    (λ c. none _ _ _ _ _ _ _ _ (c .before .before .before .before .before .before .before .pre .0 .column))
+    (λ c. omega (arith, c .before .before .before .before .before .before .before .pre .0 .small))
+    (λ c. omega (arith, c .before .before .before .before .before .before .before .pre .0 .column))
+    (λ c. omega (arith, c .before .before .before .before .before .before .before .pre .0 .column))
+    (λ c κs. let p = c .before .before .before .before .before .before .before .pre .0 in (omega (arith, row (c .before .before .before)), omega (arith, p .labels, p .column), omega (arith, p .bytes, p .column), omega (arith, p .small, p .column)))
+    (λ c. omega (arith, c .fours .ensures .0, c .before .before .before .before .before .before .before .before .pre .0 .small))
+    loop-holds
+    (λ c. omega (arith, c .before .before .before .before .before .before .before .before .before .pre .0 .column))
+    (λ c. omega (arith, c .loop-test .taken, c .before .before .before .before .before .before .before .before .before .before .pre .0 .small))
+    (λ c κs. let p = c .before .before .before .before .before .before .before .before .before .before .pre .0 in (omega (arith, row (c .before .before .before .before .before .before)), omega (arith, c .loop-test .taken, p .labels), omega (arith, c .loop-test .taken, p .bytes)))
+    (λ c. found (c .before .before .before))
+    (λ c. omega (arith, c .before .before .loop-test .taken, c .before .before .before .before .before .before .before .before .before .before .before .before .pre .0 .small))
+    (λ c. omega (arith, c .before .before .loop-test .taken))
+    loop-again
+    (λ c. found (c .before)))

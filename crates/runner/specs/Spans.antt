@@ -1,0 +1,64 @@
+-- A span, pixels of a row, added to a cluster at once: L labels, K links, B table, E ends, and the same with ′ afterwards.
+use mathlib.Core.Path.{_≡_}
+use mathlib.Core.List.{List}
+use Prim.Native.Nat.{ℕ, zero, suc, _+_, _-_, _*_, _≤_, _<_}
+use lib.IntN.{pos}
+use lib.ListN.{length, getD, set}
+use Rattle.rules.specs.State.{Cluster, withCluster}
+use Rattle.rules.specs.Color.{RunnerConfig}
+use Rattle.rules.specs.Spans.{setFrom, sumFrom, spanOf, InnerSpan, Extends, NearBytes}
+use Rattle.color.specs.Colors.{sumOf}
+use Rattle.runner.specs.Slots.{Adds, headAt, headOf, savedHead}
+use Rattle.runner.specs.Rep.{linkAfter}
+use Rattle.runner.specs.Ops.{Open}
+use Rattle.runner.specs.Stage1.{Taking}
+
+-- each of n pixels from i on is linked to the one after it
+unfoldable pub linkedFrom : List ℕ → ℕ → ℕ → List ℕ
+linkedFrom ks i zero = ks
+linkedFrom ks i (suc n) = set (linkedFrom ks i n) (i + n) (i + n + 2)
+
+-- n pixels from i on, at column x and row y, can be added to cluster k
+pub record CanAddSpan (image : List ℕ) (k i x y n : ℕ) (L K B E : List ℕ) : Type 0 where
+  pub room : Open k K B E
+  pub some : 0 < n
+  pub pixels : i + n ≤ length L
+  pub bytes : 4 * (i + n) ≤ length image
+  pub links : length L ≤ length K
+  pub small : (i + n < 2000000) × (x + n < 2000000) × (y < 2000000)
+  pub sum : Adds (sumOf (headAt B k .sum)) (sumFrom image i n)
+
+pub record AddedSpan (image : List ℕ) (k i x y n : ℕ) (L K B E L′ K′ B′ E′ : List ℕ) : Type 0 where
+  pub labels : L′ ≡ setFrom L i n k
+  pub links : K′ ≡ linkedFrom (linkAfter K (headAt B k .count) (getD E k 0) (i + 1)) i (n - 1)
+  pub table : (d : Cluster) → headAt B k ≡ headOf d → B′ ≡ savedHead B k (headOf (withCluster (spanOf image i x y n) d))
+  pub ends : E′ ≡ set E k (i + n)
+
+-- i pixels are taken, and the n next ones of the row extend cluster k, that of the pixel before them
+pub record Extending (o : RunnerConfig) (w h : ℕ) (image : List ℕ) (shift i x y n k : ℕ) (t₀ L K B E : List ℕ) (next count : ℕ) : Type 0 where
+  pub taking : Taking o w h image shift i x y t₀ L K B E next count
+  pub inner : InnerSpan w i x y n
+  pub before : getD L (i - 1) 0 ≡ k
+  pub tests : (j : ℕ) → j < n → Extends o w image L k (i + j)
+
+-- pixel i, at column x and row y, with the rest of its row
+pub record RowRest (w i x y : ℕ) (image L : List ℕ) : Type 0 where
+  pub index : i ≡ w * y + x
+  pub column : x < w
+  pub bytes : 4 * (i + (w - x)) ≤ length image
+  pub labels : i + (w - x) ≤ length L
+  pub small : i + (w - x) < 2000000
+
+-- n pixels from i on extend the cluster of the pixel before them
+pub record FoundSpan (o : RunnerConfig) (shift w : ℕ) (image L : List ℕ) (i x y n : ℕ) : Type 0 where
+  pub within : x + n ≤ w
+  pub inner : 0 < n → (0 < x) × (0 < y)
+  pub tests : o .isSameColorA ≡ pos shift → (j : ℕ) → j < n → Extends o w image L (getD L (i - 1) 0) (i + j)
+
+-- what the bytes of four pixels may be apart at most: n where it counts for likeness
+abbrev pub Limits : ℕ → List ℕ → Type 0
+Limits n l = (q : ℕ) → q < 4 → (getD l (4 * q) 0 ≤ n) × (getD l (4 * q + 1) 0 ≤ n) × (getD l (4 * q + 2) 0 ≤ n)
+
+-- each byte of the four pixels from a on is near to that of the four from b on, and of the four from b - 1 on
+abbrev pub FourNear : ℕ → List ℕ → List ℕ → ℕ → ℕ → ℕ → Type 0
+FourNear shift limits image a b n = (j : ℕ) → j < n → NearBytes shift (getD limits j 0) image (4 * a + j) (4 * b + j) × NearBytes shift (getD limits j 0) image (4 * a + j) (4 * b + j - 4)
