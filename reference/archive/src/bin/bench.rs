@@ -15,15 +15,18 @@ use judge::original;
 use judge::rng::Rng;
 
 /// The textures that are timed without `--texture`.
-const TEXTURES: [Texture; 5] = [
+const TEXTURES: [Texture; 7] = [
     Texture::Flat,
     Texture::Chart,
+    Texture::SlightNoise,
     Texture::NoisyChart,
     Texture::Noise,
+    Texture::KeyMarks,
     Texture::KeyNoise,
 ];
 
-/// The size of the images, and of the one on which both sides are quadratic.
+/// The size of the images, and of the one with the most clusters where both sides take a time of
+/// pixels × clusters.
 const SIZE: (u32, u32) = (250, 260);
 const KEY_NOISE_SIZE: (u32, u32) = (100, 100);
 
@@ -183,12 +186,14 @@ fn draw(plan: &Plan, texture: Texture) -> Result<Case, String> {
 
 fn settings(texture: Texture) -> Settings {
     match texture {
-        Texture::KeyPatches | Texture::KeyIslands | Texture::KeyNoise => Settings {
-            hierarchical: HIERARCHICAL_MAX - 1,
-            key: KEY,
-            keying_action: KeyingAction::Keep,
-            ..Settings::default()
-        },
+        Texture::KeyPatches | Texture::KeyIslands | Texture::KeyMarks | Texture::KeyNoise => {
+            Settings {
+                hierarchical: HIERARCHICAL_MAX - 1,
+                key: KEY,
+                keying_action: KeyingAction::Keep,
+                ..Settings::default()
+            }
+        }
         _ => Settings::default(),
     }
 }
