@@ -1,4 +1,5 @@
-//! `bench`: times the library and the original on the same images, in one run.
+//! `bench`: times the library and the original on the same images, in one run, or calls the library
+//! once for a profiler.
 
 use std::hint::black_box;
 use std::process::ExitCode;
@@ -15,15 +16,18 @@ use judge::original;
 use judge::rng::Rng;
 
 /// The textures that are timed without `--texture`.
-const TEXTURES: [Texture; 5] = [
+const TEXTURES: [Texture; 7] = [
     Texture::Flat,
     Texture::Chart,
+    Texture::SlightNoise,
     Texture::NoisyChart,
     Texture::Noise,
+    Texture::KeyMarks,
     Texture::KeyNoise,
 ];
 
-/// The size of the images, and of the one on which both sides are quadratic.
+/// The size of the images, and of the one with the most clusters where both sides take a time of
+/// pixels × clusters.
 const SIZE: (u32, u32) = (250, 260);
 const KEY_NOISE_SIZE: (u32, u32) = (100, 100);
 
@@ -43,12 +47,20 @@ const PARTS: [(&str, Timer); 3] = [
     ("run and paint", time_run_and_paint),
 ];
 
-/// What is timed.
+/// What is timed, or called once.
 struct Plan {
     textures: Vec<Texture>,
+    once: Option<Once>,
     repeats: usize,
     width: Option<u32>,
     height: Option<u32>,
+}
+
+/// The last call of the library where nothing is timed. Painting needs a run before it.
+#[derive(Clone, Copy, PartialEq, Eq)]
+enum Once {
+    Run,
+    Paint,
 }
 
 /// A case, and the library's memory, which is always as the call before left it.
@@ -66,6 +78,18 @@ impl<'a> Bench<'a> {
             buffers: Buffers::exact(case.area() as usize),
             picture: vec![0; case.image.len()],
             repeats,
+        }
+    }
+
+    /// Runs the library.
+    fn run(&mut self) -> Sheet {
+        let Answer { number, n, m } = call::run(&Call::of(self.case), &mut self.buffers);
+        assert_eq!(number, 0, "the run is refused");
+        Sheet {
+            width: self.case.width,
+            height: self.case.height,
+            n,
+            m,
         }
     }
 }
@@ -91,14 +115,17 @@ fn help() -> String {
         .map(|texture| format!("  {:12} {}\n", texture.name(), texture.describe()))
         .collect();
     format!(
-        "bench [--texture T] [--repeats N] [--width W] [--height H]\n\n\
+        "bench [--texture T] [--repeats N] [--width W] [--height H]\n\
+         bench --once run|paint [--texture T] [--width W] [--height H]\n\n\
          Times the original and the proved library on the same image, one after the other, N times\n\
          ({REPEATS}) after one time of each that is not counted, and prints the medians: of the run, of\n\
          painting what it left, and of both together. The ratio is the original's time divided by the\n\
          library's. Images are {}×{}, of key-noise {}×{}.\n\
          Settings are the defaults; under the textures with a key it is kept, and nothing deepens.\n\n\
+         With --once nothing is timed, compared or printed, and the original is not called: on each\n\
+         image the library runs once and, with paint, paints once. Counts of instructions are made so.\n\n\
          Without T: {}. All textures:\n\n{textures}\n\
-         Exit status: 0 timed, 1 the two give different results, 2 bad usage.\n",
+         Exit status: 0 timed or called, 1 the two give different results, 2 bad usage.\n",
         SIZE.0,
         SIZE.1,
         KEY_NOISE_SIZE.0,
@@ -108,7 +135,7 @@ fn help() -> String {
 }
 
 fn parse(args: &[String]) -> Result<Plan, String> {
-    let names = ["--texture", "--repeats", "--width", "--height"];
+    let names = ["--texture", "--once", "--repeats", "--width", "--height"];
     let options = Options::parse(args, &names, &[])?.at_most(0)?;
     let side = |name: &str| match options.value(name) {
         None => Ok(None),
@@ -120,12 +147,19 @@ fn parse(args: &[String]) -> Result<Plan, String> {
             "there is no texture {name:?}; bench --help lists them"
         ))?],
     };
+    let once = match options.value("--once") {
+        None => None,
+        Some("run") => Some(Once::Run),
+        Some("paint") => Some(Once::Paint),
+        Some(other) => return Err(format!("--once is {other:?}, not run or paint")),
+    };
     let repeats = options.number("--repeats", REPEATS)?;
     if repeats == 0 {
         return Err("--repeats is 0".to_string());
     }
     Ok(Plan {
         textures,
+        once,
         repeats,
         width: side("--width")?,
         height: side("--height")?,
@@ -138,6 +172,12 @@ fn run(plan: &Plan) -> Result<ExitCode, String> {
         .iter()
         .map(|&texture| Ok((texture, draw(plan, texture)?)))
         .collect::<Result<Vec<(Texture, Case)>, String>>()?;
+    if let Some(last) = plan.once {
+        for (_, case) in &cases {
+            call_once(case, last);
+        }
+        return Ok(ExitCode::SUCCESS);
+    }
     println!("| Texture | Size | Timed | Original, ms | Library, ms | Ratio |");
     println!("|---|---|---|---|---|---|");
     for (texture, case) in &cases {
@@ -162,6 +202,16 @@ fn run(plan: &Plan) -> Result<ExitCode, String> {
     Ok(ExitCode::SUCCESS)
 }
 
+/// Runs the library once and, where that is the last call, paints once.
+fn call_once(case: &Case, last: Once) {
+    let mut bench = Bench::new(case, 1);
+    let sheet = bench.run();
+    if last == Once::Paint {
+        let number = call::paint(sheet, &mut bench.buffers, &mut bench.picture);
+        assert_eq!(number, 0, "painting is refused");
+    }
+}
+
 /// The image and the settings of one line.
 fn draw(plan: &Plan, texture: Texture) -> Result<Case, String> {
     let usual = match texture {
@@ -183,12 +233,14 @@ fn draw(plan: &Plan, texture: Texture) -> Result<Case, String> {
 
 fn settings(texture: Texture) -> Settings {
     match texture {
-        Texture::KeyPatches | Texture::KeyIslands | Texture::KeyNoise => Settings {
-            hierarchical: HIERARCHICAL_MAX - 1,
-            key: KEY,
-            keying_action: KeyingAction::Keep,
-            ..Settings::default()
-        },
+        Texture::KeyPatches | Texture::KeyIslands | Texture::KeyMarks | Texture::KeyNoise => {
+            Settings {
+                hierarchical: HIERARCHICAL_MAX - 1,
+                key: KEY,
+                keying_action: KeyingAction::Keep,
+                ..Settings::default()
+            }
+        }
         _ => Settings::default(),
     }
 }
@@ -208,13 +260,7 @@ fn time_run(bench: &mut Bench) -> Medians {
 fn time_paint(bench: &mut Bench) -> Medians {
     let case = bench.case;
     let clusters = original::runner(case).run();
-    let Answer { n, m, .. } = call::run(&Call::of(case), &mut bench.buffers);
-    let sheet = Sheet {
-        width: case.width,
-        height: case.height,
-        n,
-        m,
-    };
+    let sheet = bench.run();
     let original = || time(|| clusters.view().to_color_image());
     let library = || time(|| call::paint(sheet, &mut bench.buffers, &mut bench.picture));
     medians(bench.repeats, original, library)
@@ -285,6 +331,8 @@ mod tests {
             parse(&args)
         };
         assert!(plan("--texture flat --repeats 3 --width 9").is_ok());
+        assert!(plan("--once paint").is_ok());
+        assert!(plan("--once both").is_err());
         assert!(plan("--texture none").is_err());
         assert!(plan("--repeats 0").is_err());
         assert!(plan("--width x").is_err());
