@@ -29,14 +29,21 @@ at-most {d} {z} h f = rw (toZ-pos w32 d h, toZ-ofZ w32 z f) (by z)
 pub gone : {c n : ℕ} → Fits w8 c → 7 < n → c / 2 ^ n ≡ 0
 gone b h = div-eq-of-lt (lt-of-lt-of-le (b .fits) (pow-le-pow-right (omega arith) h))
 
--- equal colours differ by 0
-pub like-equal : (shift bound : ℤ) (x y : Color) → equalColor x y ≡ true → colorSame shift bound x y ≡ atMost 0 bound
-unfolding equalColor colorSame
-like-equal shift bound x y e =
-    let a = both-true (eqb (x .r) (y .r) && eqb (x .g) (y .g) && eqb (x .b) (y .b)) (eqb (x .a) (y .a)) e .0 in
-    let b = both-true (eqb (x .r) (y .r) && eqb (x .g) (y .g)) (eqb (x .b) (y .b)) a in
+-- the channels of equal colours
+pub equal-channels : (x y : Color) → equalColor x y ≡ true → (x .r ≡ y .r) × (x .g ≡ y .g) × (x .b ≡ y .b) × (x .a ≡ y .a)
+unfolding equalColor
+equal-channels x y e =
+    let a = both-true (eqb (x .r) (y .r) && eqb (x .g) (y .g) && eqb (x .b) (y .b)) (eqb (x .a) (y .a)) e in
+    let b = both-true (eqb (x .r) (y .r) && eqb (x .g) (y .g)) (eqb (x .b) (y .b)) (a .0) in
     let c = both-true (eqb (x .r) (y .r)) (eqb (x .g) (y .g)) (b .0) in
-    rw (eqb-true (x .r) (y .r) (c .0), eqb-true (x .g) (y .g) (c .1), eqb-true (x .b) (y .b) (b .1), none (y .r), none (y .g), none (y .b)) (same (atMost 0 bound))
+    (eqb-true (x .r) (y .r) (c .0), eqb-true (x .g) (y .g) (c .1), eqb-true (x .b) (y .b) (b .1), eqb-true (x .a) (y .a) (a .1))
+
+-- they differ by 0
+pub like-equal : (shift bound : ℤ) (x y : Color) → equalColor x y ≡ true → colorSame shift bound x y ≡ atMost 0 bound
+unfolding colorSame
+like-equal shift bound x y e =
+    let a = equal-channels x y e in
+    rw (a .0, a .1, a .2, none (y .r), none (y .g), none (y .b)) (same (atMost 0 bound))
   where
     none : (n : ℕ) → apart (n / 2 ^ shiftOf shift) (n / 2 ^ shiftOf shift) ≡ 0
     none n = omega arith

@@ -8,7 +8,7 @@ use lib.ListN.{getD, set}
 use Rattle.rules.specs.State.{relabel}
 use Rattle.rules.specs.Layout.{walk}
 use Rattle.rules.specs.Paint.{reads}
-use Rattle.rules.specs.Spans.{setFrom}
+use Rattle.rules.specs.Spans.{setFrom, Consecutive}
 use Rattle.rules.proofs.Walks.{Step, step}
 
 -- from `at` on n links lead to the next pixel each; the list goes on behind those n + 1 pixels
@@ -26,7 +26,7 @@ module _ (size : ℕ) (links : List ℕ) where
   one-on : (t at left : ℕ) (M : List ℕ) → Step size links at left → on t at left M ≡ on t (getD links (at - 1) 0) (left - 1) (set M (at - 1) t)
   one-on t at left M S = ap (λ ps. relabel t ps M) (S .here)
 
-  pub stretch : (at left n : ℕ) → n < left → T (reads size links at left) → ((j : ℕ) → j < n → getD links (at - 1 + j) 0 ≡ at + j + 1) → Stretch size links at left n
+  pub stretch : (at left n : ℕ) → n < left → T (reads size links at left) → Consecutive links at n → Stretch size links at left n
   unfolding setFrom
   stretch at left zero l r c =
       let S = step size links at left (omega arith) r in

@@ -20,7 +20,7 @@ use Rattle.rules.specs.State.{State, fresh, Cluster, BoundingRect, Event
 use Rattle.rules.specs.Stage1.{colorAt, sameAt, isKey, labelAt, leftMeetsUp, place, takePixel, taken}
 use Rattle.rules.specs.Layout.{firstOf}
 use Rattle.rules.specs.Ranges.{Fits}
-use Rattle.rules.specs.Spans.{upFrom, setFrom, sumFrom, spanRect, spanOf, logged, addSpan, stepsFrom, Span, InnerSpan, NearBytes, Extends}
+use Rattle.rules.specs.Spans.{upFrom, setFrom, sumFrom, spanRect, spanOf, logged, addSpan, stepsFrom, Span, InnerSpan, Extends, AllExtend, NearBytes}
 use Rattle.rules.proofs.Facts.{eqb-yes, eqb-no, ⊕-assoc, ⊕-comm, ⊕-none}
 
 -- ---- rectangles
@@ -73,24 +73,24 @@ rect-more a x y n l = pick (isEmpty a) refl
 -- ---- the span as a cluster
 
 -- a cluster with other pixels, sum and rectangle
-abbrev put : Cluster → List ℕ → ColorSum → BoundingRect → Cluster
-put t ps s r = record { pixels = ps; sum = s; residue = t .residue; rect = r; mergedInto = t .mergedInto; depth = t .depth; holes = t .holes }
+abbrev clusterWith : Cluster → List ℕ → ColorSum → BoundingRect → Cluster
+clusterWith t ps s r = record { pixels = ps; sum = s; residue = t .residue; rect = r; mergedInto = t .mergedInto; depth = t .depth; holes = t .holes }
 
-put-same : (t : Cluster) {ps qs : List ℕ} {s z : ColorSum} {r q : BoundingRect} → ps ≡ qs → s ≡ z → r ≡ q → put t ps s r ≡ put t qs z q
-put-same t e f g = cc
+same-cluster : (t : Cluster) {ps qs : List ℕ} {s z : ColorSum} {r q : BoundingRect} → ps ≡ qs → s ≡ z → r ≡ q → clusterWith t ps s r ≡ clusterWith t qs z q
+same-cluster t e f g = cc
 
 -- a state with other labels, clusters and log
-abbrev with : State → List ℕ → List Cluster → List Event → State
-with s ls cs es = record { labels = ls; clusters = cs; next = s .next; outputs = s .outputs; listed = s .listed; log = es }
+abbrev stateWith : State → List ℕ → List Cluster → List Event → State
+stateWith s ls cs es = record { labels = ls; clusters = cs; next = s .next; outputs = s .outputs; listed = s .listed; log = es }
 
-with-same : (s : State) {ls ms : List ℕ} {cs ds : List Cluster} {es fs : List Event} → ls ≡ ms → cs ≡ ds → es ≡ fs → with s ls cs es ≡ with s ms ds fs
-with-same s e f g = cc
+same-state : (s : State) {ls ms : List ℕ} {cs ds : List Cluster} {es fs : List Event} → ls ≡ ms → cs ≡ ds → es ≡ fs → stateWith s ls cs es ≡ stateWith s ms ds fs
+same-state s e f g = cc
 
 module _ (image : List ℕ) (i x y : ℕ) where
   -- of one pixel
   pub span-first : (t : Cluster) → withCluster (spanOf image i x y 1) t ≡ withPixel i (pixel image i) (pixelRect x y) t
   unfolding withCluster withPixel spanOf upFrom sumFrom spanRect pixelRect
-  span-first t = put-same t (ap (λ m. t .pixels ++ (m ∷ [])) (omega arith)) (ap (λ m. t .sum ⊕ m) (none-first (one (pixel image (i + 0))) ∙ ap (λ m. one (pixel image m)) (omega arith))) refl
+  span-first t = same-cluster t (ap (λ m. t .pixels ++ (m ∷ [])) (omega arith)) (ap (λ m. t .sum ⊕ m) (none-first (one (pixel image (i + 0))) ∙ ap (λ m. one (pixel image m)) (omega arith))) refl
     where
       none-first : (z : ColorSum) → zeroSum ⊕ z ≡ z
       none-first z = ⊕-comm zeroSum z ∙ ⊕-none z
@@ -99,18 +99,18 @@ module _ (image : List ℕ) (i x y : ℕ) where
   pub span-next : (n : ℕ) → 0 < n → (t : Cluster) → withCluster (spanOf image i x y (suc n)) t ≡ withPixel (i + n) (pixel image (i + n)) (pixelRect (x + n) y) (withCluster (spanOf image i x y n) t)
   unfolding withCluster withPixel spanOf upFrom sumFrom
   span-next n l t =
-      put-same t (sym (append-assoc (t .pixels) (upFrom i n) ((i + n) ∷ []))) (sym (⊕-assoc (t .sum) (sumFrom image i n) (one (pixel image (i + n))))) (sym (rect-more (t .rect) x y n l))
+      same-cluster t (sym (append-assoc (t .pixels) (upFrom i n) ((i + n) ∷ []))) (sym (⊕-assoc (t .sum) (sumFrom image i n) (one (pixel image (i + n))))) (sym (rect-more (t .rect) x y n l))
 
   -- ---- the span added
 
   module _ (k : ℕ) (s : State) where
     pub add-first : addSpan image i x y 1 k s ≡ add i (pixel image i) (pixelRect x y) k s
     unfolding addSpan add setFrom logged
-    add-first = with-same s (ap (λ m. set (s .labels) m k) (omega arith)) (ap (set (s .clusters) k) (span-first (cluster s k))) (ap (λ m. added m k ∷ s .log) (omega arith))
+    add-first = same-state s (ap (λ m. set (s .labels) m k) (omega arith)) (ap (set (s .clusters) k) (span-first (cluster s k))) (ap (λ m. added m k ∷ s .log) (omega arith))
 
     pub add-next : (n : ℕ) → 0 < n → k < length (s .clusters) → addSpan image i x y (suc n) k s ≡ add (i + n) (pixel image (i + n)) (pixelRect (x + n) y) k (addSpan image i x y n k s)
     unfolding addSpan add setFrom logged
-    add-next n l z = with-same s refl
+    add-next n l z = same-state s refl
         (ap (set (s .clusters) k) (span-next n l (cluster s k))
         ∙ sym (set-set (s .clusters) k A (withPixel (i + n) (pixel image (i + n)) (pixelRect (x + n) y) A))
         ∙ ap (λ c. set (set (s .clusters) k A) k (withPixel (i + n) (pixel image (i + n)) (pixelRect (x + n) y) c)) (sym (getD-set-same (s .clusters) k A newCluster z))) refl
@@ -257,18 +257,21 @@ taken-span o w image size {i} x y m R column row l = times-more (takePixel o w i
 
 -- ---- what the cheap test gives
 
--- colours whose channels, shifted, are near are like
-pub like-near : (shift t : ℕ) (x y : Color) → apart (x .r / 2 ^ shift) (y .r / 2 ^ shift) ≤ t → apart (x .g / 2 ^ shift) (y .g / 2 ^ shift) ≤ t → apart (x .b / 2 ^ shift) (y .b / 2 ^ shift) ≤ t
-    → colorSame (pos shift) (pos t) x y ≡ true
-unfolding colorSame
-like-near shift t x y r g b =
-    rw (le-leb (apart (x .r / 2 ^ shift) (y .r / 2 ^ shift)) t r, le-leb (apart (x .g / 2 ^ shift) (y .g / 2 ^ shift)) t g, le-leb (apart (x .b / 2 ^ shift) (y .b / 2 ^ shift)) t b)
-
+-- pixels whose channels but alpha, shifted, are near are like
 pub same-near : (o : RunnerConfig) (image : List ℕ) (shift t a b : ℕ) → o .isSameColorA ≡ pos shift → o .isSameColorB ≡ pos t
-    → NearBytes shift t image (4 * a) (4 * b) → NearBytes shift t image (4 * a + 1) (4 * b + 1) → NearBytes shift t image (4 * a + 2) (4 * b + 2) → sameAt o image (some a) (some b) ≡ true
-unfolding sameAt colorAt isSame pixel
-same-near o image shift t a b e f r g c =
-    ap₂ (λ p q. isSame p q (colorAt image (some a)) (colorAt image (some b))) e f ∙ like-near shift t (pixel image a) (pixel image b) r g c
+    → ((c : ℕ) → c < 3 → NearBytes shift t image (4 * a + c) (4 * b + c)) → sameAt o image (some a) (some b) ≡ true
+unfolding sameAt colorAt isSame colorSame pixel
+same-near o image shift t a b e f near =
+    ap₂ (λ p q. isSame p q (colorAt image (some a)) (colorAt image (some b))) e f
+    ∙ like (pixel image a) (pixel image b) (rw (none a, none b) at (near 0 (omega arith))) (near 1 (omega arith)) (near 2 (omega arith))
+  where
+    none : (m : ℕ) → 4 * m + 0 ≡ 4 * m
+    none m = omega arith
+
+    like : (x y : Color) → apart (x .r / 2 ^ shift) (y .r / 2 ^ shift) ≤ t → apart (x .g / 2 ^ shift) (y .g / 2 ^ shift) ≤ t → apart (x .b / 2 ^ shift) (y .b / 2 ^ shift) ≤ t
+        → colorSame (pos shift) (pos t) x y ≡ true
+    like x y r g b =
+        rw (le-leb (apart (x .r / 2 ^ shift) (y .r / 2 ^ shift)) t r, le-leb (apart (x .g / 2 ^ shift) (y .g / 2 ^ shift)) t g, le-leb (apart (x .b / 2 ^ shift) (y .b / 2 ^ shift)) t b)
 
 module _ {w i x y n : ℕ} (I : InnerSpan w i x y n) where
   pub inner-column : (j : ℕ) → j < n → (i + j) % w ≡ x + j
@@ -296,7 +299,7 @@ module _ {w i x y n : ℕ} (I : InnerSpan w i x y n) where
   inner-upLeft j l = rw (lt-ltb 0 ((i + j) % w) (omega (arith, inner-column j l, I .column)), le-leb w (i + j) (omega (arith, above-row)))
 
 pub span-of : (o : RunnerConfig) (image : List ℕ) {w i x y n k : ℕ} {s : State} → InnerSpan w i x y n → k < length (s .clusters) → i + n ≤ length (s .labels) → label s (i - 1) ≡ k
-    → ((j : ℕ) → j < n → Extends o w image (s .labels) k (i + j)) → Span o w image i n k s
+    → AllExtend o w image (s .labels) k i n → Span o w image i n k s
 span-of o image {w} {i} I slot fits before T = record {
   slot = slot;
   fits = fits;

@@ -1,4 +1,4 @@
--- Spans of stage 1: consecutive pixels of a row that go into one cluster, added at once.
+-- Spans of stage 1, for code that takes them at once: consecutive pixels of a row that go into one cluster.
 use mathlib.Core.List.{List, [], _∷_, _++_}
 use mathlib.Core.Bool.{false, true, _&&_}
 use mathlib.Core.Option.{some}
@@ -21,6 +21,10 @@ unfoldable pub setFrom : List ℕ → ℕ → ℕ → ℕ → List ℕ
 setFrom ls i zero v = ls
 setFrom ls i (suc n) v = set (setFrom ls i n v) (i + n) v
 
+-- n links, from that of pixel at - 1 on, each lead to the next pixel
+abbrev pub Consecutive : List ℕ → ℕ → ℕ → Type 0
+Consecutive links at n = (j : ℕ) → j < n → getD links (at - 1 + j) 0 ≡ at + j + 1
+
 -- the colours of n pixels from i on, summed
 unfoldable pub sumFrom : List ℕ → ℕ → ℕ → ColorSum
 unfolding one _⊕_ pixel
@@ -34,7 +38,15 @@ spanRect x y n = record { left = x; top = y; right = x + n; bottom = y + 1 }
 -- n pixels from pixel i on, which is at column x and row y, as a cluster
 unfoldable pub spanOf : List ℕ → ℕ → ℕ → ℕ → ℕ → Cluster
 unfolding upFrom sumFrom spanRect
-spanOf image i x y n = record { pixels = upFrom i n; sum = sumFrom image i n; residue = zeroSum; rect = spanRect x y n; mergedInto = 0; depth = 0; holes = [] }
+spanOf image i x y n = record {
+  pixels = upFrom i n;
+  sum = sumFrom image i n;
+  residue = zeroSum;
+  rect = spanRect x y n;
+  mergedInto = 0;
+  depth = 0;
+  holes = [];
+}
 
 -- the events of a span, the newest first
 unfoldable pub logged : ℕ → ℕ → ℕ → List Event → List Event
@@ -58,8 +70,9 @@ unfoldable pub stepsFrom {ℓ} : {S : Type ℓ} → ℕ → ℕ → (ℕ → S �
 stepsFrom i zero f s = s
 stepsFrom i (suc n) f s = f (i + n) (stepsFrom i n f s)
 
--- n pixels from i on, neither in the first column nor in the first row, join cluster k: that is the label of the pixel before i and of each pixel above;
--- none is a key pixel; and each is like the pixel above and the one left of that. Labels are those before the span.
+-- n pixels from i on, neither in the first column nor in the first row, join cluster k: that is the label of the pixel
+-- before i and of each pixel above; none is a key pixel; and each is like the pixel above and the one left of that.
+-- Labels are those before the span.
 pub record Span (o : RunnerConfig) (w : ℕ) (image : List ℕ) (i n k : ℕ) (s : State) : Type 0 where
   pub slot : k < length (s .clusters)
   pub fits : i + n ≤ length (s .labels)
@@ -69,7 +82,8 @@ pub record Span (o : RunnerConfig) (w : ℕ) (image : List ℕ) (i n k : ℕ) (s
   pub below : (j : ℕ) → j < n → up w (i + j) ≡ some (i + j - w)
   pub above : (j : ℕ) → j < n → label s (i + j - w) ≡ k
   pub free : (j : ℕ) → j < n → isKey o image (i + j) ≡ false
-  pub likes : (j : ℕ) → j < n → sameAt o image (some (i + j)) (up w (i + j)) && sameAt o image (some (i + j)) (upLeft w (i + j)) ≡ true
+  pub likes : (j : ℕ) → j < n
+      → sameAt o image (some (i + j)) (up w (i + j)) && sameAt o image (some (i + j)) (upLeft w (i + j)) ≡ true
 
 -- n pixels from i on, which is at column x and row y, behind the first column and the first row
 pub record InnerSpan (w i x y n : ℕ) : Type 0 where
@@ -85,6 +99,10 @@ pub record Extends (o : RunnerConfig) (w : ℕ) (image labels : List ℕ) (k p :
   pub like-up : sameAt o image (some p) (some (p - w)) ≡ true
   pub like-up-left : sameAt o image (some p) (some (p - w - 1)) ≡ true
 
--- byte p of the image, shifted, is near to byte q
+-- n pixels from i on do
+abbrev pub AllExtend : RunnerConfig → ℕ → List ℕ → List ℕ → ℕ → ℕ → ℕ → Type 0
+AllExtend o w image labels k i n = (j : ℕ) → j < n → Extends o w image labels k (i + j)
+
+-- bytes p and q of the image, shifted, are at most t apart
 abbrev pub NearBytes : ℕ → ℕ → List ℕ → ℕ → ℕ → Type 0
 NearBytes shift t image p q = apart (getD image p 0 / 2 ^ shift) (getD image q 0 / 2 ^ shift) ≤ t

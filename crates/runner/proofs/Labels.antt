@@ -9,7 +9,7 @@ use lib.ListN.{length, getD, set, length-set}
 use Rattle.rules.specs.State.{relabel}
 use Rattle.rules.specs.Layout.{walk}
 use Rattle.rules.specs.Paint.{reads}
-use Rattle.rules.specs.Spans.{setFrom}
+use Rattle.rules.specs.Spans.{setFrom, Consecutive}
 use Rattle.rules.proofs.Walks.{Step, step}
 use Rattle.rules.proofs.Spans.{length-setFrom}
 use Rattle.rules.proofs.Relabels.{stretch}
@@ -25,7 +25,7 @@ module _ {L K : List ℕ} {at left : ℕ} (C : CanRelabel L K at left) where
   relabels-one t l = record { width = length-set L (at - 1) t; list = next-step l .rest; same = sym (ap (λ ps. relabel t ps L) (next-step l .here)) }
 
   -- n pixels after it are relabelled with it
-  module _ (n : ℕ) (l : n < left) (c : (j : ℕ) → j < n → getD K (at - 1 + j) 0 ≡ at + j + 1) where
+  module _ (n : ℕ) (l : n < left) (c : Consecutive K at n) where
     pub stretch-in : at - 1 + n < length L
     stretch-in = stretch (length L) K at left n l (C .list) c .within
 

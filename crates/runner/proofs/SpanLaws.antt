@@ -16,7 +16,7 @@ use Rattle.rules.specs.Color.{RunnerConfig, pixel, keyingOn}
 use Rattle.rules.specs.State.{State, Cluster, cluster, label, area, pixelRect, withPixel, withCluster, add}
 use Rattle.rules.specs.Stage1.{labelAt, isKey, taken}
 use Rattle.rules.specs.Ranges.{Fits}
-use Rattle.rules.specs.Spans.{setFrom, sumFrom, spanOf, addSpan, Span, Extends, NearBytes}
+use Rattle.rules.specs.Spans.{setFrom, sumFrom, spanOf, addSpan, Span, Extends, AllExtend, NearBytes}
 use Rattle.rules.specs.Demand3.{Discarded}
 use Rattle.rules.proofs.Early.{Early, labelAt-next}
 use Rattle.rules.proofs.Whole.{early-at}
@@ -26,7 +26,7 @@ use Rattle.color.specs.Colors.{sumOf}
 use Rattle.runner.specs.declared.slot.Head.{Head}
 use Rattle.runner.specs.Slots.{Adds, store, headAt, headOf, headNumbers, savedHead}
 use Rattle.runner.specs.Rep.{Rep, linkAfter}
-use Rattle.runner.specs.Spans.{linkedFrom, CanAddSpan, AddedSpan, Extending, RowRest, FoundSpan, Limits, FourNear}
+use Rattle.runner.specs.Spans.{linkedFrom, CanAddSpan, AddedSpan, Extending, RowRest, FoundSpan, Fitting, ManyNear}
 use Rattle.runner.specs.Stage1.{Holding, Placing, Taking}
 use Rattle.runner.proofs.Places.{place-in}
 use Rattle.runner.proofs.Spots.{spot-in, near-row}
@@ -234,26 +234,27 @@ module _ {o : RunnerConfig} {w h : ℕ} {image : List ℕ} {shift i x y : ℕ} {
 
 -- ---- four pixels at once
 
-module _ (o : RunnerConfig) (shift w : ℕ) (image L limits : List ℕ) (i k n : ℕ) (row : w + 1 ≤ i) (a : o .isSameColorA ≡ pos shift) (b : o .isSameColorB ≡ pos n) (limited : Limits n limits)
-    (near : FourNear shift limits image i (i - w) 16) where
-  there : (l p q p′ q′ : ℕ) → p′ ≡ p → q′ ≡ q → l ≤ n → NearBytes shift l image p q → NearBytes shift n image p′ q′
-  there l p q p′ q′ e f z m = rw (e, f) (omega (arith, z, m))
-
-  pub four-extend : ((j : ℕ) → j < 4 → getD L (i - w + j) 0 ≡ k) → ((j : ℕ) → j < 4 → isKey o image (i + j) ≡ false) → (j : ℕ) → j < 4 → Extends o w image L k (i + j)
-  four-extend labels free j l = record {
-    label-up = ap (λ p. getD L p 0) (let e : i + j - w ≡ i - w + j = omega arith in e) ∙ labels j l;
-    no-key = free j l;
-    like-up = same-near o image shift n (i + j) (i + j - w) a b
-        (there _ _ _ _ _ (let e : 4 * (i + j) ≡ 4 * i + 4 * j = omega arith in e) (let e : 4 * (i + j - w) ≡ 4 * (i - w) + 4 * j = omega arith in e) (limited j l .0) (near (4 * j) (omega arith) .0))
-        (there _ _ _ _ _ (let e : 4 * (i + j) + 1 ≡ 4 * i + (4 * j + 1) = omega arith in e) (let e : 4 * (i + j - w) + 1 ≡ 4 * (i - w) + (4 * j + 1) = omega arith in e) (limited j l .1) (near (4 * j + 1) (omega arith) .0))
-        (there _ _ _ _ _ (let e : 4 * (i + j) + 2 ≡ 4 * i + (4 * j + 2) = omega arith in e) (let e : 4 * (i + j - w) + 2 ≡ 4 * (i - w) + (4 * j + 2) = omega arith in e) (limited j l .2) (near (4 * j + 2) (omega arith) .0));
-    like-up-left = same-near o image shift n (i + j) (i + j - w - 1) a b
-        (there _ _ _ _ _ (let e : 4 * (i + j) ≡ 4 * i + 4 * j = omega arith in e) (let e : 4 * (i + j - w - 1) ≡ 4 * (i - w) + 4 * j - 4 = omega arith in e) (limited j l .0) (near (4 * j) (omega arith) .1))
-        (there _ _ _ _ _ (let e : 4 * (i + j) + 1 ≡ 4 * i + (4 * j + 1) = omega arith in e) (let e : 4 * (i + j - w - 1) + 1 ≡ 4 * (i - w) + (4 * j + 1) - 4 = omega arith in e) (limited j l .1) (near (4 * j + 1) (omega arith) .1))
-        (there _ _ _ _ _ (let e : 4 * (i + j) + 2 ≡ 4 * i + (4 * j + 2) = omega arith in e) (let e : 4 * (i + j - w - 1) + 2 ≡ 4 * (i - w) + (4 * j + 2) - 4 = omega arith in e) (limited j l .2) (near (4 * j + 2) (omega arith) .1));
+module _ {o : RunnerConfig} {shift w : ℕ} {image L limits : List ℕ} {i k : ℕ} (row : w + 1 ≤ i) (F : Fitting o shift limits) (near : ManyNear shift limits image i (i - w) 16) where
+  pub four-extend : ((j : ℕ) → j < 4 → getD L (i - w + j) 0 ≡ k) → ((j : ℕ) → j < 4 → isKey o image (i + j) ≡ false) → AllExtend o w image L k i 4
+  four-extend labels free q l = record {
+    label-up = ap (λ p. getD L p 0) (let e : i + q - w ≡ i - w + q = omega arith in e) ∙ labels q l;
+    no-key = free q l;
+    like-up = same-near o image shift (F .bound) (i + q) (i + q - w) (F .shifted) (F .bounded)
+        (λ c z. there (let e : 4 * (i + q) + c ≡ 4 * i + (4 * q + c) = omega arith in e) (let e : 4 * (i + q - w) + c ≡ 4 * (i - w) + (4 * q + c) = omega arith in e) (F .limited q c l z) (near (4 * q + c) (omega arith) .0));
+    like-up-left = same-near o image shift (F .bound) (i + q) (i + q - w - 1) (F .shifted) (F .bounded)
+        (λ c z. there (let e : 4 * (i + q) + c ≡ 4 * i + (4 * q + c) = omega arith in e) (let e : 4 * (i + q - w - 1) + c ≡ 4 * (i - w) + (4 * q + c) - 4 = omega arith in e) (F .limited q c l z) (near (4 * q + c) (omega arith) .1));
   }
+    where
+      there : {l a a′ b b′ : ℕ} → a′ ≡ a → b′ ≡ b → l ≤ F .bound → NearBytes shift l image a b → NearBytes shift (F .bound) image a′ b′
+      there e f z m = rw (e, f) (omega (arith, z, m))
 
--- what holds of four numbers
+-- what holds of three and of four numbers
+pub of-three : (P : ℕ → Type 0) → P 0 → P 1 → P 2 → (j : ℕ) → j < 3 → P j
+of-three P a b c zero l = a
+of-three P a b c (suc zero) l = b
+of-three P a b c (suc (suc zero)) l = c
+of-three P a b c (suc (suc (suc j))) l = absurd (omega arith)
+
 pub of-four : (P : ℕ → Type 0) → P 0 → P 1 → P 2 → P 3 → (j : ℕ) → j < 4 → P j
 of-four P a b c d zero l = a
 of-four P a b c d (suc zero) l = b

@@ -1,12 +1,11 @@
 // Labels written for many pixels at once.
 ghost use mathlib.Core.Path.{_≡_};
-ghost use Prim.Native.Nat.{ℕ, _+_, _-_, _≤_, _<_};
-ghost use lib.Dec.{T};
+ghost use mathlib.Core.List.{List};
+ghost use Prim.Native.Nat.{ℕ, _+_, _≤_, _<_};
 ghost use lib.ListN.{length, getD};
 ghost use Rattle.rules.specs.State as rules;
 ghost use Rattle.rules.specs.Layout.{walk};
-ghost use Rattle.rules.specs.Paint.{reads};
-ghost use Rattle.rules.specs.Spans.{setFrom};
+ghost use Rattle.rules.specs.Spans.{setFrom, Consecutive};
 ghost use Rattle.runner.specs.Labelling.{CanRelabel, Relabels};
 
 // n labels from i on become k.
@@ -21,10 +20,11 @@ pub(crate) fn fill(labels: &mut [u32], i: u32, n: u32, k: u32)
     }
 }
 
-// How many links, one after another from the first of a list of `left` pixels from `at`, lead to the next pixel of the image.
+// How many links of the list of `left` pixels from `at`, its first ones, each lead to the next pixel of the image.
 fn stretch(links: &[u32], at: u32, left: u32) -> u32
-    requires { ⌜ ((size : ℕ) × (size ≤ length (now links)) × (size < 2000000) × (0 < left) × T (reads size (now links) at left)) ⌝ }
-    ensures { λ r. ⌜ (r < left) × ((j : ℕ) → j < r → getD (now (links .entry)) (at - 1 + j) 0 ≡ at + j + 1) ⌝ }
+    requires { ⌜ ((L : List ℕ) × CanRelabel L (now links) at left) ⌝ }
+    requires { ⌜ 0 < left ⌝ }
+    ensures { λ r. ⌜ (r < left) × Consecutive (now (links .entry)) at r ⌝ }
 {
     let mut n = 0;
     while n + 1 < left {
@@ -42,11 +42,13 @@ struct Rest {
     left: u32,
 }
 
-// Labels the first pixel of the list of `left` pixels from `at` with t, and those that follow it both in the list and in the image.
+// Labels the first pixel of the list of `left` pixels from `at` with t, and those that follow it both in the list and
+// in the image. Their places do not wait for their links.
 fn relabel_stretch(labels: &mut [u32], links: &[u32], at: u32, left: u32, t: u32) -> Rest
     requires { ⌜ CanRelabel (now labels) (now links) at left ⌝ }
     requires { ⌜ 0 < left ⌝ }
-    ensures { λ r. ⌜ (r .left < left) × Relabels t (now (labels .entry)) (now (links .entry)) at left (now (labels .exit)) (r .at) (r .left) ⌝ }
+    ensures { λ r. ⌜ (r .left < left)
+        × Relabels t (now (labels .entry)) (now (links .entry)) at left (now (labels .exit)) (r .at) (r .left) ⌝ }
 {
     let next = links[(at - 1) as usize];
     if next == at + 1 {
@@ -67,7 +69,8 @@ fn relabel_stretch(labels: &mut [u32], links: &[u32], at: u32, left: u32, t: u32
 // Labels the pixels of the list of count pixels from first with t.
 pub(crate) fn relabel(labels: &mut [u32], links: &[u32], first: u32, count: u32, t: u32)
     requires { ⌜ CanRelabel (now labels) (now links) first count ⌝ }
-    ensures { λ _. ⌜ now (labels .exit) ≡ rules.relabel t (walk (λ p. getD (now (links .entry)) p 0) first count) (now (labels .entry)) ⌝ }
+    ensures { λ _. ⌜ now (labels .exit)
+        ≡ rules.relabel t (walk (λ p. getD (now (links .entry)) p 0) first count) (now (labels .entry)) ⌝ }
 {
     let mut at = first;
     let mut left = count;

@@ -1,4 +1,4 @@
-// Spans of stage 1: pixels of a row that go into the cluster of the pixel before them, found first and then added at once.
+// Spans of stage 1: pixels of a row that go into the cluster of the pixel before them, found and then added at once.
 ghost use mathlib.Core.Path.{_≡_};
 ghost use mathlib.Core.Bool.{true, false};
 ghost use Prim.Native.Nat.{ℕ, _+_, _-_, _*_, _≤_, _<_};
@@ -6,10 +6,10 @@ ghost use lib.IntN.{pos};
 ghost use lib.ListN.{length, getD};
 ghost use Rattle.rules.specs.Base.{apart};
 ghost use Rattle.rules.specs.Stage1.{isKey};
-ghost use Rattle.rules.specs.Spans.{sumFrom, Extends};
+ghost use Rattle.rules.specs.Spans.{sumFrom, Extends, AllExtend};
 ghost use Rattle.color.specs.Colors.{sumOf};
 ghost use Rattle.runner.specs.Types.{configOf};
-ghost use Rattle.runner.specs.Spans.{linkedFrom, CanAddSpan, AddedSpan, RowRest, FoundSpan, Limits, FourNear};
+ghost use Rattle.runner.specs.Spans.{linkedFrom, CanAddSpan, AddedSpan, RowRest, FoundSpan, LimitsOf, Fitting, ManyNear};
 use super::bound::BoundingRect;
 use super::builder;
 use super::keying;
@@ -61,7 +61,9 @@ pub(crate) fn add_span(
     n: u32,
 )
     requires { ⌜ CanAddSpan (now image) k i x y n (now labels) (now links) (now table) (now ends) ⌝ }
-    ensures { λ _. ⌜ AddedSpan (now (image .entry)) k i x y n (now (labels .entry)) (now (links .entry)) (now (table .entry)) (now (ends .entry)) (now (labels .exit)) (now (links .exit)) (now (table .exit)) (now (ends .exit)) ⌝ }
+    ensures { λ _. ⌜ AddedSpan (now (image .entry)) k i x y n
+        (now (labels .entry)) (now (links .entry)) (now (table .entry)) (now (ends .entry))
+        (now (labels .exit)) (now (links .exit)) (now (table .exit)) (now (ends .exit)) ⌝ }
 {
     let s = slot::load_head(table, k);
     let span = Head {
@@ -93,7 +95,8 @@ fn extends(
     k: u32,
 ) -> bool
     requires { ⌜ (w + 1 ≤ i) × (i < length (now labels)) × (4 * i + 4 ≤ length (now image)) ⌝ }
-    ensures { λ r. ⌜ (r ≡ true → configOf o .isSameColorA ≡ pos shift → Extends (configOf o) w (now (image .entry)) (now (labels .entry)) k i) ⌝ }
+    ensures { λ r. ⌜ (r ≡ true → configOf o .isSameColorA ≡ pos shift
+        → Extends (configOf o) w (now (image .entry)) (now (labels .entry)) k i) ⌝ }
 {
     if labels[(i - w) as usize] != k {
         return false;
@@ -124,7 +127,7 @@ fn bound_of(t: i32) -> u8
 
 // The same for each byte of four pixels; alpha may be anything.
 pub(crate) fn limits_of(o: RunnerConfig) -> [u8; 16]
-    ensures { λ r. ⌜ ((n : ℕ) → configOf o .isSameColorB ≡ pos n → Limits n r) ⌝ }
+    ensures { λ r. ⌜ LimitsOf (configOf o) r ⌝ }
 {
     let d = bound_of(o.is_same_color_b);
     [d, d, d, 255, d, d, d, 255, d, d, d, 255, d, d, d, 255]
@@ -137,10 +140,11 @@ fn far(x: u8, y: u8, limit: u8) -> u8
     if limit < color::distance(x, y) { 1 } else { 0 }
 }
 
-// How often a byte of the four pixels from a on, shifted, is further than its limit from that of the four from b on, or of the four from b - 1 on.
+// How many bytes of the four pixels from a on, shifted, are further than their limit from those of the four from b on,
+// and from those of the four from b - 1 on. They are counted, without a branch, so that the compiler takes all at once.
 fn four_far(image: &[u8], a: u32, b: u32, shift: u32, limits: &[u8; 16]) -> u8
     requires { ⌜ (4 * a + 16 ≤ length (now image)) × (1 ≤ b) × (b ≤ a) × (shift < 8) ⌝ }
-    ensures { λ r. ⌜ (r ≡ 0 → FourNear shift (now (limits .entry)) (now (image .entry)) a b 16) ⌝ }
+    ensures { λ r. ⌜ (r ≡ 0 → ManyNear shift (now (limits .entry)) (now (image .entry)) a b 16) ⌝ }
 {
     let p = 4 * (a as usize);
     let q = 4 * (b as usize);
@@ -167,7 +171,8 @@ fn four_labels(labels: &[u32], i: u32, k: u32) -> bool
 // Whether none of the four pixels from i on is a key pixel.
 fn four_free(image: &[u8], o: RunnerConfig, i: u32) -> bool
     requires { ⌜ (4 * i + 16 ≤ length (now image)) × (i < 2000000) ⌝ }
-    ensures { λ r. ⌜ (r ≡ true → (j : ℕ) → j < 4 → isKey (configOf o) (now (image .entry)) (i + j) ≡ false) ⌝ }
+    ensures { λ r. ⌜ (r ≡ true → (j : ℕ) → j < 4
+        → isKey (configOf o) (now (image .entry)) (i + j) ≡ false) ⌝ }
 {
     !keying::is_key(image, o, i)
         & !keying::is_key(image, o, i + 1)
@@ -186,8 +191,10 @@ fn four_extend(
     i: u32,
     k: u32,
 ) -> bool
-    requires { ⌜ (w + 1 ≤ i) × (i + 4 ≤ length (now labels)) × (4 * i + 16 ≤ length (now image)) × (i < 2000000) × (shift < 8) ⌝ }
-    ensures { λ r. ⌜ (r ≡ true → (n : ℕ) → configOf o .isSameColorA ≡ pos shift → configOf o .isSameColorB ≡ pos n → Limits n (now (limits .entry)) → (j : ℕ) → j < 4 → Extends (configOf o) w (now (image .entry)) (now (labels .entry)) k (i + j)) ⌝ }
+    requires { ⌜ (w + 1 ≤ i) × (i + 4 ≤ length (now labels)) × (4 * i + 16 ≤ length (now image)) ⌝ }
+    requires { ⌜ (i < 2000000) × (shift < 8) ⌝ }
+    ensures { λ r. ⌜ (r ≡ true → Fitting (configOf o) shift (now (limits .entry))
+        → AllExtend (configOf o) w (now (image .entry)) (now (labels .entry)) k i 4) ⌝ }
 {
     if !four_labels(labels, i - w, k) {
         return false;
@@ -210,8 +217,10 @@ fn fours(
     k: u32,
     room: u32,
 ) -> u32
-    requires { ⌜ (w + 1 ≤ i) × (i + room ≤ length (now labels)) × (4 * (i + room) ≤ length (now image)) × (i + room < 2000000) ⌝ }
-    ensures { λ r. ⌜ (r ≤ room) × ((n : ℕ) → configOf o .isSameColorA ≡ pos shift → configOf o .isSameColorB ≡ pos n → Limits n (now (limits .entry)) → (j : ℕ) → j < r → Extends (configOf o) w (now (image .entry)) (now (labels .entry)) k (i + j)) ⌝ }
+    requires { ⌜ (w + 1 ≤ i) × (i + room ≤ length (now labels)) × (4 * (i + room) ≤ length (now image)) ⌝ }
+    requires { ⌜ i + room < 2000000 ⌝ }
+    ensures { λ r. ⌜ (r ≤ room) × (Fitting (configOf o) shift (now (limits .entry))
+        → AllExtend (configOf o) w (now (image .entry)) (now (labels .entry)) k i r) ⌝ }
 {
     if 7 < shift {
         return 0;
@@ -239,7 +248,7 @@ pub(crate) fn span_length(
     y: u32,
 ) -> u32
     requires { ⌜ RowRest w i x y (now image) (now labels) ⌝ }
-    requires { ⌜ ((n : ℕ) → configOf o .isSameColorB ≡ pos n → Limits n (now limits)) ⌝ }
+    requires { ⌜ LimitsOf (configOf o) (now limits) ⌝ }
     ensures { λ r. ⌜ FoundSpan (configOf o) shift w (now (image .entry)) (now (labels .entry)) i x y r ⌝ }
 {
     if x == 0 {

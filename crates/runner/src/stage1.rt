@@ -15,7 +15,7 @@ ghost use Rattle.rules.specs.Stage1 as rules;
 ghost use Rattle.rules.specs.Run as run;
 ghost use Rattle.color.specs.Colors.{colorOf, optionOf};
 ghost use Rattle.runner.specs.Types.{configOf};
-ghost use Rattle.runner.specs.Spans.{Limits};
+ghost use Rattle.runner.specs.Spans.{LimitsOf};
 ghost use Rattle.runner.specs.Stage1.{Given, At, Holding, meets, joined, aimed, isNowhere, Opened, Placing, Meeting, Sided, Taking, Blank};
 use super::builder;
 use super::keying;
@@ -389,7 +389,7 @@ struct Step {
     pixels: u32,
 }
 
-// Pixel i, at column x and row y, is taken, and with it as many of the next pixels of the row as go into the same cluster at once.
+// Pixel i, at column x and row y, is taken, and with it the rest of its span.
 fn take_pixels(
     image: &[u8],
     labels: &mut [u32],
@@ -405,9 +405,14 @@ fn take_pixels(
     x: u32,
     y: u32,
 ) -> Step
-    requires { ⌜ ((n : ℕ) → configOf o .isSameColorB ≡ pos n → Limits n (now limits)) ⌝ }
-    requires { ⌜ ((h : ℕ) × (t₀ : List ℕ) × Taking (configOf o) w h (now image) shift i x y t₀ (now labels) (now links) (now table) (now ends) (s .next) (s .count)) ⌝ }
-    ensures { λ r. ⌜ (0 < r .pixels) × (x + r .pixels ≤ w) × ((h : ℕ) (t₀ : List ℕ) → Taking (configOf o) w h (now (image .entry)) shift i x y t₀ (now (labels .entry)) (now (links .entry)) (now (table .entry)) (now (ends .entry)) (s .next) (s .count) → Holding (w * h) (rules.taken (configOf o) w (now (image .entry)) (w * h) (i + r .pixels)) t₀ (now (labels .exit)) (now (links .exit)) (now (table .exit)) (now (ends .exit)) (r .next) (r .count)) ⌝ }
+    requires { ⌜ LimitsOf (configOf o) (now limits) ⌝ }
+    requires { ⌜ ((h : ℕ) × (t₀ : List ℕ) × Taking (configOf o) w h (now image) shift i x y t₀
+        (now labels) (now links) (now table) (now ends) (s .next) (s .count)) ⌝ }
+    ensures { λ r. ⌜ (0 < r .pixels) × (x + r .pixels ≤ w) × ((h : ℕ) (t₀ : List ℕ)
+        → Taking (configOf o) w h (now (image .entry)) shift i x y t₀
+        (now (labels .entry)) (now (links .entry)) (now (table .entry)) (now (ends .entry)) (s .next) (s .count)
+        → Holding (w * h) (rules.taken (configOf o) w (now (image .entry)) (w * h) (i + r .pixels)) t₀
+        (now (labels .exit)) (now (links .exit)) (now (table .exit)) (now (ends .exit)) (r .next) (r .count)) ⌝ }
 {
     let n = spans::span_length(image, labels, o, shift, limits, w, i, x, y);
     if n == 0 {

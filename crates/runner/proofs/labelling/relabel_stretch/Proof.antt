@@ -24,7 +24,7 @@ relabel-stretch-spec =
     (search needs)
     (λ c. omega (arith, first (c .before)))
     (λ c. omega (arith, first (c .before)))
-    (λ c κs. let p = c .before .before .before .before .pre in (_, p .0 .links, p .0 .small, p .1, p .0 .list))
+    (λ c κs. let p = c .before .before .before .before .pre in ((_, p .0), p .1))
     (λ c. first (c .before .before .before .before) .0)
     (search needs)
     (λ c κs. (omega (arith, last (c .before), first (c .before .before .before .before)), omega (arith, last (c .before), first (c .before .before .before .before), c .before .before .before .before .before .before .pre .0 .small)))

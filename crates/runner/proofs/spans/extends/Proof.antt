@@ -1,14 +1,11 @@
-use mathlib.Core.Path.{_≡_, refl, sym, _∙_}
-use mathlib.Core.Bool.{Bool, true, false, not, true≢false}
+use mathlib.Core.Path.{sym, _∙_}
+use mathlib.Core.Bool.{true≢false}
 use mathlib.Core.Option.{some}
 use borrow.Author.Needs.{needs}
+use borrow.Author.Tests.{not-true}
 use Rattle.runner.proofs.Spots.{color-there}
 use Rattle.runner.proofs.spans.extends.Statement.{statement}
 use Rattle.runner.proofs.spans.extends.Tie as tie
-
-not-true : (b : Bool) → not b ≡ true → b ≡ false
-not-true true e = absurd (true≢false (sym e))
-not-true false e = refl
 
 returns-2 : tie.Need-returns-2
 returns-2 c e z =

@@ -3,12 +3,12 @@ use Prim.Native.Nat.{ℕ, _+_, _-_, _*_, _≤_, _<_}
 use native.Mathlib.Omega.{arith}
 use borrow.Author.Count.{below-more}
 use borrow.Author.Needs.{needs}
-use Rattle.runner.specs.Spans.{FourNear}
+use Rattle.runner.specs.Spans.{ManyNear}
 use Rattle.runner.proofs.spans.four_far.Statement.{statement}
 use Rattle.runner.proofs.spans.four_far.Tie as tie
 
 abbrev Inv-loop : tie.InvT-loop
-Inv-loop image a b shift limits p q n₀ j₀ n j = (j ≤ 16) × (n ≤ 2 * j) × (n ≡ 0 → FourNear shift limits image a b j)
+Inv-loop image a b shift limits p q n₀ j₀ n j = (j ≤ 16) × (n ≤ 2 * j) × (n ≡ 0 → ManyNear shift limits image a b j)
 
 abbrev μ-loop : tie.MeasureT-loop
 μ-loop image a b shift limits p q n₀ j₀ n j = 16 - j

@@ -1,17 +1,16 @@
 use mathlib.Core.Path.{_≡_, refl, sym, ap, _∙_, subst}
 use mathlib.Core.Logic.{by-cases}
-use mathlib.Core.Bool.{Bool, true, false, not, true≢false}
 use mathlib.Core.List.{List}
 use Prim.Native.Nat.{ℕ, _+_, _-_, _*_, _≤_, _<_}
 use native.Mathlib.Decide.{decLt}
 use native.Mathlib.Nat.{le-mul-of-pos-right}
 use native.Mathlib.Omega.{arith}
 use borrow.Author.Count.{below-more}
-use borrow.Author.Needs.{needs}
+use borrow.Author.Tests.{not-false}
 use lib.IntN.{pos}
 use lib.ListN.{length, getD}
 use Rattle.rules.specs.Color.{RunnerConfig}
-use Rattle.rules.specs.Spans.{Extends}
+use Rattle.rules.specs.Spans.{Extends, AllExtend}
 use Rattle.rules.proofs.Spans.{same-bound}
 use Rattle.runner.specs.Types.{configOf}
 use Rattle.runner.specs.Spans.{RowRest, FoundSpan}
@@ -19,7 +18,7 @@ use Rattle.runner.proofs.spans.span_length.Statement.{statement}
 use Rattle.runner.proofs.spans.span_length.Tie as tie
 
 abbrev Inv-loop : tie.InvT-loop
-Inv-loop image labels o shift limits w i x y k n₀ n = (x + n ≤ w) × (configOf o .isSameColorA ≡ pos shift → (j : ℕ) → j < n → Extends (configOf o) w image labels k (i + j))
+Inv-loop image labels o shift limits w i x y k n₀ n = (x + n ≤ w) × (configOf o .isSameColorA ≡ pos shift → AllExtend (configOf o) w image labels k i n)
 
 abbrev μ-loop : tie.MeasureT-loop
 μ-loop image labels o shift limits w i x y k n₀ n = w - x - n
@@ -29,10 +28,6 @@ none o shift w image L i x y l = record { within = omega arith; inner = λ z. ab
 
 above : (w i x y : ℕ) → i ≡ w * y + x → 0 < x → 0 < y → w + 1 ≤ i
 above w i x y e a b = omega (arith, le-mul-of-pos-right w b)
-
-not-false : (b : Bool) → not b ≡ false → b ≡ true
-not-false true e = refl
-not-false false e = absurd (true≢false e)
 
 -- the first, and those after it
 first-then : (P : ℕ → Type 0) (i r : ℕ) → P i → ((j : ℕ) → j < r → P (i + 1 + j)) → (j : ℕ) → j < 1 + r → P (i + j)
@@ -53,7 +48,7 @@ loop-holds c =
       λ e.
           let f = c .before .before .extends .ensures (not-false _ (c .before .if3 .left)) e in
           let m = same-bound (configOf (a .o)) (a .image .now) (a .i) (a .i - a .w) (f .like-up) in
-          first-then (Extends (configOf (a .o)) (a .w) (a .image .now) (a .labels .now) (getD (a .labels .now) (a .i - 1) 0)) (a .i) (c .fours .result) f (c .fours .ensures .1 (m .0) e (m .1) (s .pre .1 (m .0) (m .1))),
+          first-then (Extends (configOf (a .o)) (a .w) (a .image .now) (a .labels .now) (getD (a .labels .now) (a .i - 1) 0)) (a .i) (c .fours .result) f (c .fours .ensures .1 (record { shifted = e; bound = m .0; bounded = m .1; limited = s .pre .1 (m .0) (m .1) })),
     )
 
 loop-again : tie.Need-loop-again Inv-loop μ-loop
@@ -81,7 +76,7 @@ span-length-spec =
     (λ c. omega (arith, c .before .before .before .before .before .before .before .pre .0 .small))
     (λ c. omega (arith, c .before .before .before .before .before .before .before .pre .0 .column))
     (λ c. omega (arith, c .before .before .before .before .before .before .before .pre .0 .column))
-    (λ c κs. let p = c .before .before .before .before .before .before .before .pre .0 in (omega (arith, row (c .before .before .before)), omega (arith, p .labels, p .column), omega (arith, p .bytes, p .column), omega (arith, p .small, p .column)))
+    (λ c κs. let p = c .before .before .before .before .before .before .before .pre .0 in ((omega (arith, row (c .before .before .before)), omega (arith, p .labels, p .column), omega (arith, p .bytes, p .column)), omega (arith, p .small, p .column)))
     (λ c. omega (arith, c .fours .ensures .0, c .before .before .before .before .before .before .before .before .pre .0 .small))
     loop-holds
     (λ c. omega (arith, c .before .before .before .before .before .before .before .before .before .pre .0 .column))
