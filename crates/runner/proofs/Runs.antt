@@ -1,9 +1,11 @@
 -- From what stage 2 leaves in the buffers to the run of the rules.
 use mathlib.Core.Path.{_≡_, refl, sym, ap, _∙_, subst}
+use mathlib.Core.Bool.{false}
 use mathlib.Core.List.{List, [], _∷_, _++_}
 use Prim.Native.Nat.{ℕ, zero, suc, _+_, _-_, _*_, _≤_, _<_}
 use native.Mathlib.Nat.{sub-zero}
 use native.Mathlib.Omega.{arith}
+use borrow.Author.Tests.{ltb-false}
 use lib.Dec.{ltb}
 use lib.IntN.{pos}
 use lib.ListN.{length, getD, take, drop, replicate, length-replicate, List·getD-append}
@@ -15,6 +17,7 @@ use Rattle.rules.specs.Run.{stage1, stage2, dropEmpty, run}
 use Rattle.rules.specs.Layout.{link, links, slot, table}
 use Rattle.rules.specs.Order.{drained}
 use Rattle.rules.specs.Ranges.{Ranged, Below}
+use Rattle.rules.specs.Refusals.{badShift}
 use Rattle.rules.specs.Calls.{Buffers, over, leaves, accepted}
 use Rattle.rules.proofs.Accepted.{Accepted}
 use Rattle.rules.proofs.Bounds.{outputs-bound}
@@ -70,11 +73,15 @@ module _ {w h : ℕ} (W E : List ℕ) (long : length W ≡ 8 * (w * h + 1)) (wid
       zero-part : marksPart room (withPart W₀ (5 * room) (6 * room) (replicate room 0)) ≡ replicate room 0
       zero-part = part-with W₀ (5 * room) (6 * room) (replicate room 0) (omega arith) (omega arith) (length-replicate room 0 ∙ omega arith)
 
+-- a shift that is not refused
+shift-narrow : {n : ℕ} → badShift (pos n) ≡ false → n < 8
+shift-narrow {n} e = omega (arith, ltb-false 7 n e)
+
 -- what stage 1 asks and leaves, when labels, links and marks are blank
 module _ {o : RunnerConfig} {w h : ℕ} {image L K B W L₁ K₁ W₁ : List ℕ} (R : CanRun o w h image L K B W) (D : Blanked (w * h + 1) L K W L₁ K₁ W₁) (kept : length W₁ ≡ length W) where
   pub stage-1-asks : {shift : ℕ} → o .isSameColorA ≡ pos shift → Given o w h image shift × Blank (w * h) L₁ K₁ B (endsPart (w * h + 1) W₁)
   stage-1-asks e = (
-    record { shifted = e; bytes = R .image-fits .bytes; whole = R .image-fits .whole; columns = R .image-fits .columns; rows = R .rows; small = R .image-fits .small },
+    record { shifted = e; narrow = shift-narrow (ap badShift (sym e) ∙ R .shift); bytes = R .image-fits .bytes; whole = R .image-fits .whole; columns = R .image-fits .columns; rows = R .rows; small = R .image-fits .small },
     record {
       labels = D .labels ∙ ap (λ n. replicate n 0) (R .labels);
       links = D .links ∙ ap (λ n. replicate n 0) (R .links);

@@ -1,10 +1,11 @@
 -- The buffers hold the rules' state after a span of pixels that were added at once.
 use mathlib.Core.Path.{_≡_, refl, sym, ap, ap₂, _∙_, subst}
-use mathlib.Core.Logic.{_≢_}
+use mathlib.Core.Logic.{by-cases}
 use mathlib.Core.Bool.{false}
 use mathlib.Core.List.{List, [], _∷_}
 use mathlib.Core.Option.{some}
 use Prim.Native.Nat.{ℕ, zero, suc, _+_, _-_, _*_, _≤_, _<_}
+use native.Mathlib.Decide.{decLt}
 use native.Mathlib.Nat.{mul-comm, le-mul-of-pos-right}
 use native.Mathlib.Omega.{arith}
 use borrow.Author.Tests.{ne-eqb}
@@ -247,6 +248,10 @@ module _ {o : RunnerConfig} {shift w : ℕ} {image L limits : List ℕ} {i k : �
     where
       there : {l a a′ b b′ : ℕ} → a′ ≡ a → b′ ≡ b → l ≤ F .bound → NearBytes shift l image a b → NearBytes shift (F .bound) image a′ b′
       there e f z m = rw (e, f) (omega (arith, z, m))
+
+-- what holds of n numbers from i on, and of m after them
+pub then-more : (P : ℕ → Type 0) (i n m : ℕ) → ((j : ℕ) → j < n → P (i + j)) → ((j : ℕ) → j < m → P (i + n + j)) → (j : ℕ) → j < n + m → P (i + j)
+then-more P i n m f g j l = by-cases (decLt j n) (λ z. f j z) (λ z. subst P (let e : i + n + (j - n) ≡ i + j = omega (arith, z) in e) (g (j - n) (omega (arith, z))))
 
 -- what holds of three and of four numbers
 pub of-three : (P : ℕ → Type 0) → P 0 → P 1 → P 2 → (j : ℕ) → j < 3 → P j

@@ -23,6 +23,7 @@ use Rattle.runner.specs.Rep.{Rep}
 -- an image of w columns and h rows, with the shift of the settings as a number
 pub record Given (o : RunnerConfig) (w h : ℕ) (image : List ℕ) (shift : ℕ) : Type 0 where
   pub shifted : o .isSameColorA ≡ pos shift
+  pub narrow : shift < 8
   pub bytes : (p : ℕ) → getD image p 0 ≤ 255
   pub whole : length image ≡ 4 * (w * h)
   pub columns : 0 < w

@@ -218,13 +218,10 @@ fn fours(
     room: u32,
 ) -> u32
     requires { ⌜ (w + 1 ≤ i) × (i + room ≤ length (now labels)) × (4 * (i + room) ≤ length (now image)) ⌝ }
-    requires { ⌜ i + room < 2000000 ⌝ }
+    requires { ⌜ (i + room < 2000000) × (shift < 8) ⌝ }
     ensures { λ r. ⌜ (r ≤ room) × (Fitting (configOf o) shift (now (limits .entry))
         → AllExtend (configOf o) w (now (image .entry)) (now (labels .entry)) k i r) ⌝ }
 {
-    if 7 < shift {
-        return 0;
-    }
     let mut n = 0;
     while n + 4 <= room {
         if !four_extend(image, labels, o, shift, limits, w, i + n, k) {
@@ -248,6 +245,7 @@ pub(crate) fn span_length(
     y: u32,
 ) -> u32
     requires { ⌜ RowRest w i x y (now image) (now labels) ⌝ }
+    requires { ⌜ shift < 8 ⌝ }
     requires { ⌜ LimitsOf (configOf o) (now limits) ⌝ }
     ensures { λ r. ⌜ FoundSpan (configOf o) shift w (now (image .entry)) (now (labels .entry)) i x y r ⌝ }
 {

@@ -1,8 +1,6 @@
 use mathlib.Core.Path.{_≡_, refl, sym, ap, _∙_, subst}
-use mathlib.Core.Logic.{by-cases}
 use mathlib.Core.List.{List}
 use Prim.Native.Nat.{ℕ, _+_, _-_, _*_, _≤_, _<_}
-use native.Mathlib.Decide.{decLt}
 use native.Mathlib.Nat.{le-mul-of-pos-right}
 use native.Mathlib.Omega.{arith}
 use borrow.Author.Count.{below-more}
@@ -14,6 +12,7 @@ use Rattle.rules.specs.Spans.{Extends, AllExtend}
 use Rattle.rules.proofs.Spans.{same-bound}
 use Rattle.runner.specs.Types.{configOf}
 use Rattle.runner.specs.Spans.{RowRest, FoundSpan}
+use Rattle.runner.proofs.SpanLaws.{then-more}
 use Rattle.runner.proofs.spans.span_length.Statement.{statement}
 use Rattle.runner.proofs.spans.span_length.Tie as tie
 
@@ -28,10 +27,6 @@ none o shift w image L i x y l = record { within = omega arith; inner = λ z. ab
 
 above : (w i x y : ℕ) → i ≡ w * y + x → 0 < x → 0 < y → w + 1 ≤ i
 above w i x y e a b = omega (arith, le-mul-of-pos-right w b)
-
--- the first, and those after it
-first-then : (P : ℕ → Type 0) (i r : ℕ) → P i → ((j : ℕ) → j < r → P (i + 1 + j)) → (j : ℕ) → j < 1 + r → P (i + j)
-first-then P i r f g j l = by-cases (decLt j 1) (λ z. subst P (let e : i ≡ i + j = omega (arith, z) in e) f) (λ z. subst P (let e : i + 1 + (j - 1) ≡ i + j = omega (arith, z) in e) (g (j - 1) (omega (arith, z))))
 
 -- behind the first column and the first row
 inner : (c : tie.Else2 Inv-loop μ-loop) → (let a = c .before .before .before .before .args in (0 < a .x) × (0 < a .y))
@@ -48,7 +43,7 @@ loop-holds c =
       λ e.
           let f = c .before .before .extends .ensures (not-false _ (c .before .if3 .left)) e in
           let m = same-bound (configOf (a .o)) (a .image .now) (a .i) (a .i - a .w) (f .like-up) in
-          first-then (Extends (configOf (a .o)) (a .w) (a .image .now) (a .labels .now) (getD (a .labels .now) (a .i - 1) 0)) (a .i) (c .fours .result) f (c .fours .ensures .1 (record { shifted = e; bound = m .0; bounded = m .1; limited = s .pre .1 (m .0) (m .1) })),
+          then-more (Extends (configOf (a .o)) (a .w) (a .image .now) (a .labels .now) (getD (a .labels .now) (a .i - 1) 0)) (a .i) 1 (c .fours .result) (λ j l. subst (Extends _ _ _ _ _) (let z : a .i ≡ a .i + j = omega arith in z) f) (c .fours .ensures .1 (record { shifted = e; bound = m .0; bounded = m .1; limited = s .pre .1 .1 (m .0) (m .1) })),
     )
 
 loop-again : tie.Need-loop-again Inv-loop μ-loop
@@ -76,7 +71,7 @@ span-length-spec =
     (λ c. omega (arith, c .before .before .before .before .before .before .before .pre .0 .small))
     (λ c. omega (arith, c .before .before .before .before .before .before .before .pre .0 .column))
     (λ c. omega (arith, c .before .before .before .before .before .before .before .pre .0 .column))
-    (λ c κs. let p = c .before .before .before .before .before .before .before .pre .0 in ((omega (arith, row (c .before .before .before)), omega (arith, p .labels, p .column), omega (arith, p .bytes, p .column)), omega (arith, p .small, p .column)))
+    (λ c κs. let p = c .before .before .before .before .before .before .before .pre .0 in ((omega (arith, row (c .before .before .before)), omega (arith, p .labels, p .column), omega (arith, p .bytes, p .column)), (omega (arith, p .small, p .column), c .before .before .before .before .before .before .before .pre .1 .0)))
     (λ c. omega (arith, c .fours .ensures .0, c .before .before .before .before .before .before .before .before .pre .0 .small))
     loop-holds
     (λ c. omega (arith, c .before .before .before .before .before .before .before .before .before .pre .0 .column))

@@ -32,7 +32,7 @@ pub take-pixels-spec : {M : Type 1} → statement M
 take-pixels-spec =
     tie.close
     (tie.spec
-    (λ c κs. (row-of (c .before .before .before .before .before .before .pre .1 .2), c .before .before .before .before .before .before .pre .0))
+    (λ c κs. let p = c .before .before .before .before .before .before .pre in (row-of (p .1 .2), (p .1 .2 .given .narrow, p .0)))
     (λ c κs. c .before .before .before .before .before .before .before .before .before .before .before .before .pre .1)
     (search needs)
     (search needs)
