@@ -1,26 +1,25 @@
 -- A span of stage 1, added at once, is its pixels taken one by one.
 use mathlib.Core.Path.{_≡_, refl, sym, ap, ap₂, _∙_}
 use mathlib.Core.Logic.{_≢_}
-use mathlib.Core.Bool.{Bool, true, false, not, _&&_, true≢false}
+use mathlib.Core.Bool.{Bool, true, false, _&&_, true≢false}
 use mathlib.Core.List.{List, [], _∷_, _++_, append-assoc}
-use mathlib.Core.Option.{Option, some}
+use mathlib.Core.Option.{some}
 use Prim.Native.Nat.{ℕ, zero, suc, _+_, _-_, _*_, _/_, _%_, _^_, _≤_, _<_, min, max}
 use native.Mathlib.Decide.{ℕ-discrete}
 use native.Mathlib.Nat.{mul-add-mod-self-left, mul-add-div, mod-eq-of-lt, div-eq-of-lt, le-mul-of-pos-right}
 use native.Mathlib.Omega.{arith}
 use borrow.Author.Tests.{lt-ltb, le-leb}
-use lib.Dec.{eqb}
 use lib.IntN.{ℤ, pos, negsuc}
 use lib.ListN.{length, getD, set, length-set, length-append}
 use lib.Seq.{getD-set-same, getD-set-other, set-set}
-use Rattle.rules.specs.Base.{if_then_else_, times, apart}
+use Rattle.rules.specs.Base.{times, apart}
 use Rattle.rules.specs.Color.{Color, ColorSum, RunnerConfig, zeroSum, one, _⊕_, pixel, colorSame, isSame}
 use Rattle.rules.specs.Grid.{up, left, upLeft}
 use Rattle.rules.specs.State.{State, fresh, Cluster, BoundingRect, Event, added, newCluster, cluster, area, label, isEmpty, mergeRect, pixelRect, withPixel, withCluster, add}
 use Rattle.rules.specs.Stage1.{colorAt, sameAt, isKey, labelAt, leftMeetsUp, place, takePixel, taken}
 use Rattle.rules.specs.Layout.{firstOf}
 use Rattle.rules.specs.Ranges.{Fits}
-use Rattle.rules.specs.Spans.{upFrom, setFrom, sumFrom, spanRect, spanOf, logged, addSpan, stepsFrom, Span, InnerSpan, Extends, AllExtend, NearBytes}
+use Rattle.rules.specs.Spans.{upFrom, setFrom, sumFrom, spanRect, spanOf, logged, addSpan, stepsFrom, Span, InnerSpan, AllExtend, NearBytes}
 use Rattle.rules.proofs.Facts.{eqb-yes, eqb-no, ⊕-assoc, ⊕-comm, ⊕-none}
 
 -- ---- rectangles

@@ -1,13 +1,12 @@
 -- What relabelling a part of a list leaves to be done.
-use mathlib.Core.Path.{_≡_, sym, ap, ap₂, _∙_, subst}
+use mathlib.Core.Path.{sym, ap, _∙_, subst}
 use mathlib.Core.List.{List}
-use Prim.Native.Nat.{ℕ, suc, _+_, _-_, _<_}
+use Prim.Native.Nat.{ℕ, _+_, _-_, _<_}
 use native.Mathlib.Numerals.{add-one}
 use native.Mathlib.Omega.{arith}
 use lib.Dec.{T}
 use lib.ListN.{length, getD, set, length-set}
 use Rattle.rules.specs.State.{relabel}
-use Rattle.rules.specs.Layout.{walk}
 use Rattle.rules.specs.Paint.{reads}
 use Rattle.rules.specs.Spans.{setFrom, Consecutive}
 use Rattle.rules.proofs.Walks.{Step, step}

@@ -10,11 +10,10 @@ use native.Mathlib.Nat.{mul-comm, le-mul-of-pos-right}
 use native.Mathlib.Omega.{arith}
 use borrow.Author.Tests.{ne-eqb}
 use lib.Dec.{T}
-use lib.IntN.{pos}
-use lib.ListN.{length, getD, set, length-set}
+use lib.ListN.{length, getD, set}
 use lib.Seq.{getD-set-same, set-set, set-comm}
 use Rattle.rules.specs.Color.{RunnerConfig, pixel, keyingOn}
-use Rattle.rules.specs.State.{State, Cluster, cluster, label, area, pixelRect, withPixel, withCluster, add}
+use Rattle.rules.specs.State.{State, cluster, label, area, pixelRect, withPixel, withCluster, add}
 use Rattle.rules.specs.Stage1.{labelAt, isKey, taken}
 use Rattle.rules.specs.Ranges.{Fits}
 use Rattle.rules.specs.Spans.{setFrom, sumFrom, spanOf, addSpan, Span, Extends, AllExtend, NearBytes}

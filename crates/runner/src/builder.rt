@@ -3,7 +3,7 @@
 // `ends` holds for each slot the last pixel of its list, then for each slot the last of its hole children, each plus one.
 ghost use mathlib.Core.Path.{_≡_};
 ghost use Prim.Native.Nat.{_+_, _-_, _*_, _≤_, _<_};
-ghost use lib.Dec.{T, eqb};
+ghost use lib.Dec.{eqb};
 ghost use lib.ListN.{length, getD, set};
 ghost use Rattle.rules.specs.Base.{if_then_else_};
 ghost use Rattle.color.specs.Colors.{colorOf};

@@ -13,7 +13,7 @@ ghost use Rattle.rules.specs.Color.{RunnerConfig as Config};
 ghost use Rattle.rules.specs.State.{State};
 ghost use Rattle.rules.specs.Stage1 as rules;
 ghost use Rattle.rules.specs.Run as run;
-ghost use Rattle.color.specs.Colors.{colorOf, optionOf};
+ghost use Rattle.color.specs.Colors.{optionOf};
 ghost use Rattle.runner.specs.Types.{configOf};
 ghost use Rattle.runner.specs.Spans.{LimitsOf};
 ghost use Rattle.runner.specs.Stage1.{Given, At, Holding, meets, joined, aimed, isNowhere, Opened, Placing, Meeting, Sided, Taking, Blank};

@@ -1,5 +1,4 @@
-use mathlib.Core.Path.{_≡_, refl}
-use native.Mathlib.Omega.{arith}
+use mathlib.Core.Path.{refl}
 use Rattle.rules.proofs.Walks.{walk-none}
 use Rattle.runner.specs.Labelling.{Relabels}
 use Rattle.runner.proofs.Labels.{can-go-on, relabels-then}

@@ -1,8 +1,7 @@
-use mathlib.Core.Path.{_≡_, refl}
 use Prim.Native.Nat.{_+_, _-_, _≤_, _<_}
 use native.Mathlib.Omega.{arith}
 use borrow.Author.Needs.{needs}
-use lib.ListN.{length, length-set}
+use lib.ListN.{length}
 use Rattle.runner.proofs.Labels.{next-step, stretch-in, relabels-one, relabels-stretch}
 use Rattle.runner.proofs.labelling.relabel_stretch.Statement.{statement}
 use Rattle.runner.proofs.labelling.relabel_stretch.Tie as tie

@@ -3,10 +3,10 @@ use mathlib.Core.List.{List}
 use Prim.Native.Nat.{ℕ, zero, suc, _+_, _-_, _≤_, _<_}
 use native.Mathlib.Omega.{arith}
 use borrow.Author.Needs.{needs}
-use lib.ListN.{length, getD, set, length-set}
+use lib.ListN.{length, getD, set}
 use Rattle.rules.specs.Color.{ColorSum}
 use Rattle.rules.specs.State.{Cluster, withCluster}
-use Rattle.rules.specs.Spans.{upFrom, setFrom, sumFrom, spanRect, spanOf}
+use Rattle.rules.specs.Spans.{setFrom, sumFrom, spanRect, spanOf}
 use Rattle.rules.proofs.Spans.{first-upFrom, length-upFrom}
 use Rattle.color.specs.Colors.{sumOf}
 use Rattle.color.specs.declared.ColorSum as declared

@@ -1,4 +1,4 @@
-use mathlib.Core.Path.{_≡_, refl, sym, ap, _∙_, subst}
+use mathlib.Core.Path.{_≡_, subst}
 use mathlib.Core.List.{List}
 use Prim.Native.Nat.{ℕ, _+_, _-_, _*_, _≤_, _<_}
 use native.Mathlib.Nat.{le-mul-of-pos-right}
@@ -6,12 +6,12 @@ use native.Mathlib.Omega.{arith}
 use borrow.Author.Count.{below-more}
 use borrow.Author.Tests.{not-false}
 use lib.IntN.{pos}
-use lib.ListN.{length, getD}
+use lib.ListN.{getD}
 use Rattle.rules.specs.Color.{RunnerConfig}
 use Rattle.rules.specs.Spans.{Extends, AllExtend}
 use Rattle.rules.proofs.Spans.{same-bound}
 use Rattle.runner.specs.Types.{configOf}
-use Rattle.runner.specs.Spans.{RowRest, FoundSpan}
+use Rattle.runner.specs.Spans.{FoundSpan}
 use Rattle.runner.proofs.SpanLaws.{then-more}
 use Rattle.runner.proofs.spans.span_length.Statement.{statement}
 use Rattle.runner.proofs.spans.span_length.Tie as tie

@@ -1,9 +1,8 @@
-use mathlib.Core.Path.{_≡_, refl, ap, ap₂, _∙_, subst, sym}
+use mathlib.Core.Path.{_≡_, ap, ap₂, _∙_, subst, sym}
 use mathlib.Core.List.{List}
 use Prim.Native.Nat.{ℕ, _+_, _-_, _*_, _≤_, _<_}
 use native.Mathlib.Numerals.{add-one}
 use native.Mathlib.Omega.{arith}
-use borrow.Author.Needs.{needs}
 use lib.ListN.{getD}
 use Rattle.rules.specs.Color.{Color, ColorSum, one, _⊕_, pixel}
 use Rattle.rules.specs.Ranges.{Fits}
