@@ -47,13 +47,13 @@ unfolding spanRect pixelRect
 rect-more a x y n l = pick (isEmpty a) refl
   where
     R : ℕ → BoundingRect
-    R m = record { left = x; top = y; right = x + m; bottom = y + 1 }
+    R = spanRect x y
 
     P : BoundingRect
-    P = record { left = x + n; top = y; right = x + n + 1; bottom = y + 1 }
+    P = pixelRect (x + n) y
 
     both : BoundingRect
-    both = record { left = min (a .left) x; top = min (a .top) y; right = max (a .right) (x + n); bottom = max (a .bottom) (y + 1) }
+    both = record { left = min (a .left) (R n .left); top = min (a .top) (R n .top); right = max (a .right) (R n .right); bottom = max (a .bottom) (R n .bottom) }
 
     r : (m : ℕ) → 0 < m → isEmpty (R m) ≡ false
     r m z = wide (R m) (omega arith)

@@ -8,7 +8,6 @@ use Prim.Native.Nat.{ℕ, zero, suc, _+_, _-_, _*_, _≤_, _<_}
 use native.Mathlib.Decide.{decLt}
 use native.Mathlib.Nat.{mul-comm, le-mul-of-pos-right}
 use native.Mathlib.Omega.{arith}
-use borrow.Author.Tests.{ne-eqb}
 use lib.Dec.{T}
 use lib.ListN.{length, getD, set}
 use lib.Seq.{getD-set-same, set-set, set-comm}
@@ -31,6 +30,7 @@ use Rattle.runner.specs.Stage1.{Holding, Placing, Taking}
 use Rattle.runner.proofs.Places.{place-in}
 use Rattle.runner.proofs.Spots.{spot-in, near-row}
 use Rattle.runner.proofs.Tables.{head-at}
+use Rattle.runner.proofs.Tails.{linkAfter-joins}
 use Rattle.runner.proofs.RepStage1.{rep-add, labels-long, links-long}
 use Rattle.runner.proofs.Stage1Laws.{rep-is, can-add}
 
@@ -51,11 +51,6 @@ store-twice t b j (v ∷ vs) (w ∷ ws) e =
 saved-twice : (t : List ℕ) (k : ℕ) (g h : Head) → savedHead (savedHead t k g) k h ≡ savedHead t k h
 unfolding savedHead
 saved-twice t k g h = store-twice t (21 * k) 0 (headNumbers g) (headNumbers h) refl
-
--- a list that is not empty goes on
-links-on : (ks : List ℕ) (count tail first : ℕ) → 0 < count → 0 < first → linkAfter ks count tail first ≡ set ks (tail - 1) first
-unfolding linkAfter
-links-on ks count tail first a b = rw (ne-eqb count 0 (λ e. omega (arith, e)), ne-eqb first 0 (λ e. omega (arith, e)))
 
 -- ---- the span
 
@@ -137,7 +132,7 @@ module _ {o : RunnerConfig} {w h : ℕ} {image : List ℕ} {shift i x y n k : �
 
       linked : linkedFrom K₁ i (suc m) ≡ linkAfter (linkedFrom K₁ i m) (area (cluster v k)) (getD (set E k (i + suc m)) k 0) (i + suc m + 1)
       linked =
-          sym (links-on (linkedFrom K₁ i m) (area (cluster v k)) (getD (set E k (i + suc m)) k 0) (i + suc m + 1) (omega (arith, ap area (then-cluster m (omega arith)), span-area image i x y (suc m) (cluster s k))) (omega arith)
+          sym (linkAfter-joins (linkedFrom K₁ i m) (area (cluster v k)) (getD (set E k (i + suc m)) k 0) (i + suc m + 1) (omega (arith, ap area (then-cluster m (omega arith)), span-area image i x y (suc m) (cluster s k))) (omega arith)
           ∙ ap (λ t. set (linkedFrom K₁ i m) (t - 1) (i + suc m + 1)) (getD-set-same E k (i + suc m) 0 in-ends)
           ∙ ap₂ (set (linkedFrom K₁ i m)) (let a : i + suc m - 1 ≡ i + m = omega arith in a) (let a : i + suc m + 1 ≡ i + m + 2 = omega arith in a))
 

@@ -6,7 +6,8 @@ use mathlib.Core.List.{List, [], _∷_, _++_, append-nil}
 use Prim.Native.Nat.{ℕ, zero, suc, _-_, _<_}
 use native.Mathlib.Decide.{ℕ-discrete}
 use native.Mathlib.Omega.{arith}
-use lib.Dec.{eqb, eqb·suc-zero}
+use borrow.Author.Tests.{ne-eqb}
+use lib.Dec.{eqb}
 use lib.ListN.{length, getD, set, length-set}
 use lib.Seq.{getD-set-same, getD-set-other, ext-getD}
 use Rattle.rules.specs.Base.{if_then_else_}
@@ -39,9 +40,10 @@ pub linkAfter-none : (ls : List ℕ) (n tail : ℕ) → linkAfter ls n tail 0 �
 unfolding linkAfter
 linkAfter-none ls n tail = elim (eqb n 0) as (λ a. (if a then ls else ls) ≡ ls) [ true ↦ refl | false ↦ refl ]
 
-linkAfter-joins : (ls : List ℕ) (n tail first : ℕ) → linkAfter ls (suc n) tail (suc first) ≡ set ls (tail - 1) (suc first)
+-- a list that is not empty goes on
+pub linkAfter-joins : (ls : List ℕ) (n tail first : ℕ) → 0 < n → 0 < first → linkAfter ls n tail first ≡ set ls (tail - 1) first
 unfolding linkAfter
-linkAfter-joins ls n tail first = rw (eqb·suc-zero n, eqb·suc-zero first)
+linkAfter-joins ls n tail first a b = rw (ne-eqb n 0 (λ e. omega (arith, e)), ne-eqb first 0 (λ e. omega (arith, e)))
 
 -- the tail is read only where there is one
 pub linkAfter-tail : (ls : List ℕ) (n a b first : ℕ) → (0 < n → a ≡ b) → linkAfter ls n a first ≡ linkAfter ls n b first
@@ -78,7 +80,7 @@ module _ {t : ℕ} {xs : List ℕ} {s s′ : State} (M : Tailed t xs s s′) (ot
       pick (x ∷ r) e (y ∷ ys) q =
           ext-getD 0 (links s′) (set (links s) (lastOf (x ∷ r) - 1) (suc y)) (links-length s′ ∙ M .wide ∙ sym (links-length s) ∙ sym (length-set (links s) (lastOf (x ∷ r) - 1) (suc y)))
           (λ p l. links-at s′ p (omega (arith, links-length s′)) ∙ at p (omega (arith, links-length s′, M .wide)) (ℕ-discrete p (last (cluster s t .pixels))))
-          ∙ sym (linkAfter-joins (links s) (length r) (lastOf (x ∷ r)) y)
+          ∙ sym (linkAfter-joins (links s) (suc (length r)) (lastOf (x ∷ r)) (suc y) (omega arith) (omega arith))
         where
           place : lastOf (x ∷ r) - 1 ≡ last (cluster s t .pixels)
           place = ap (λ m. m - 1) (lastOf-last (x ∷ r) (omega arith)) ∙ omega arith ∙ ap last (sym e)
