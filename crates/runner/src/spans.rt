@@ -160,7 +160,7 @@ fn four_far(image: &[u8], a: u32, b: u32, shift: u32, limits: &[u8; 16]) -> u8
 }
 
 // Whether the four labels from i on are k.
-fn four_labels(labels: &[u32], i: u32, k: u32) -> bool
+fn four_in_cluster(labels: &[u32], i: u32, k: u32) -> bool
     requires { ⌜ i + 4 ≤ length (now labels) ⌝ }
     ensures { λ r. ⌜ (r ≡ true → (j : ℕ) → j < 4 → getD (now (labels .entry)) (i + j) 0 ≡ k) ⌝ }
 {
@@ -196,7 +196,7 @@ fn four_extend(
     ensures { λ r. ⌜ (r ≡ true → Fitting (configOf o) shift (now (limits .entry))
         → AllExtend (configOf o) w (now (image .entry)) (now (labels .entry)) k i 4) ⌝ }
 {
-    if !four_labels(labels, i - w, k) {
+    if !four_in_cluster(labels, i - w, k) {
         return false;
     }
     if four_far(image, i, i - w, shift, limits) != 0 {

@@ -9,8 +9,8 @@ use lib.Dec.{eqb}
 use lib.ListN.{getD}
 use Rattle.rules.proofs.Facts.{both-true}
 use Rattle.runner.proofs.SpanLaws.{of-four}
-use Rattle.runner.proofs.spans.four_labels.Statement.{statement}
-use Rattle.runner.proofs.spans.four_labels.Tie as tie
+use Rattle.runner.proofs.spans.four_in_cluster.Statement.{statement}
+use Rattle.runner.proofs.spans.four_in_cluster.Tie as tie
 
 all : (L : List ℕ) (i k : ℕ) → eqb (getD L i 0) k && eqb (getD L (i + 1) 0) k && eqb (getD L (i + 2) 0) k && eqb (getD L (i + 3) 0) k ≡ true → (j : ℕ) → j < 4 → getD L (i + j) 0 ≡ k
 all L i k e =
@@ -25,5 +25,5 @@ all L i k e =
 returns : tie.Need-returns
 returns c e = let a = c .before .before .before .before .args in all (a .labels .now) (a .i) (a .k) e
 
-pub four-labels-spec : {M : Type 1} → statement M
-four-labels-spec = tie.close (tie.spec (search needs) (search needs) (search needs) (search needs) (search needs) (search needs) (search needs) (search needs) (search needs) (search needs) (search needs) returns)
+pub four-in-cluster-spec : {M : Type 1} → statement M
+four-in-cluster-spec = tie.close (tie.spec (search needs) (search needs) (search needs) (search needs) (search needs) (search needs) (search needs) (search needs) (search needs) (search needs) (search needs) returns)
