@@ -54,6 +54,12 @@ saved-twice t k g h = store-twice t (21 * k) 0 (headNumbers g) (headNumbers h) r
 
 -- ---- the span
 
+-- the rest of a row is on the image
+pub row-end : {o : RunnerConfig} {w h : ℕ} {image : List ℕ} {shift i x y : ℕ} {t₀ L K B E : List ℕ} {free count : ℕ} → Taking o w h image shift i x y t₀ L K B E free count → i + (w - x) ≤ w * h
+row-end {w = w} {h = h} {y = y} Q =
+    let c = Q .spot .column in
+    omega (arith, Q .spot .index, mul-comm w y, place-in w h (w - 1) y (let a : w - 1 < w = omega (arith, Q .given .columns) in a) (Q .spot .row))
+
 module _ {o : RunnerConfig} {w h : ℕ} {image : List ℕ} {shift i x y n k : ℕ} {t₀ L K B E : List ℕ} {free count : ℕ} (Q : Extending o w h image shift i x y n k t₀ L K B E free count) where
   abbrev s : State
   s = taken o w image (w * h) i
@@ -63,10 +69,7 @@ module _ {o : RunnerConfig} {w h : ℕ} {image : List ℕ} {shift i x y n k : �
 
   -- the span is on the image
   pub inside : i + n ≤ w * h
-  inside =
-      let c = Q .inner .column in
-      let d = Q .inner .within in
-      omega (arith, Q .inner .index, mul-comm w y, place-in w h (w - 1) y (let a : w - 1 < w = omega (arith, Q .taking .given .columns) in a) (Q .taking .spot .row))
+  inside = omega (arith, row-end (Q .taking), Q .inner .within)
 
   early : (j : ℕ) → j ≤ n → Early image (w * h) (Discarded o image) (T (keyingOn o)) (i + j) (taken o w image (w * h) (i + j))
   early j l = early-at o w h image (i + j) (omega (arith, inside))
@@ -166,19 +169,14 @@ module _ {o : RunnerConfig} {w h : ℕ} {image : List ℕ} {shift i x y : ℕ} {
   here : Early image (w * h) (Discarded o image) (T (keyingOn o)) i (taken o w image (w * h) i)
   here = early-at o w h image i (omega (arith, spot-in (Q .spot)))
 
-  pub row-end : i + (w - x) ≤ w * h
-  row-end =
-      let c = Q .spot .column in
-      omega (arith, Q .spot .index, mul-comm w y, place-in w h (w - 1) y (let a : w - 1 < w = omega (arith, Q .given .columns) in a) (Q .spot .row))
-
   -- the rest of its row is there
   pub row-of : RowRest w i x y image L
   row-of = record {
     index = Q .spot .index;
     column = Q .spot .column;
-    bytes = omega (arith, row-end, Q .given .whole);
-    labels = omega (arith, row-end, labels-long here (Q .holding .rep));
-    small = omega (arith, row-end, Q .given .small);
+    bytes = omega (arith, row-end Q, Q .given .whole);
+    labels = omega (arith, row-end Q, labels-long here (Q .holding .rep));
+    small = omega (arith, row-end Q, Q .given .small);
   }
 
   module _ {n : ℕ} (F : FoundSpan o shift w image L i x y n) (some-n : 0 < n) where
