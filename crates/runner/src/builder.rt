@@ -61,7 +61,8 @@ pub(crate) fn add(
     slot::save_head(table, k, s.with_pixel(i, x, y, c));
 }
 
-// The list, sum and rectangle of f are added to t's, and its pixels are relabelled.
+// The list, sum and rectangle of f are added to t's, and its pixels are relabelled: first, so that nothing but the list
+// is held meanwhile.
 fn append(
     labels: &mut [u32],
     links: &mut [u32],
@@ -73,9 +74,15 @@ fn append(
     requires { ⌜ CanAppend f t (now labels) (now links) (now table) (now ends) ⌝ }
     ensures { λ _. ⌜ Appended f t (now (labels .entry)) (now (links .entry)) (now (table .entry)) (now (ends .entry)) (now (labels .exit)) (now (links .exit)) (now (table .exit)) (now (ends .exit)) ⌝ }
 {
+    labelling::relabel(
+        labels,
+        links,
+        slot::first_pixel(table, f),
+        slot::count_of(table, f),
+        t,
+    );
     let from = slot::load_head(table, f);
     let to = slot::load_head(table, t);
-    labelling::relabel(labels, links, from.first, from.count, t);
     link_after(links, to.count, ends[t as usize], from.first);
     move_tail(ends, f, t, from.count);
     slot::save_head(table, t, to.with_cluster(from));

@@ -1,7 +1,8 @@
 use mathlib.Core.Path.{_≡_, ap, _∙_}
 use mathlib.Core.List.{List}
-use Prim.Native.Nat.{ℕ, _+_, _≤_, _<_}
+use Prim.Native.Nat.{ℕ, _+_, _*_, _≤_, _<_}
 use native.Mathlib.Omega.{arith}
+use borrow.Author.Needs.{needs}
 use lib.Dec.{eqb}
 use lib.ListN.{length, getD, set}
 use Rattle.rules.specs.Base.{if_then_else_}
@@ -18,50 +19,61 @@ use Rattle.runner.proofs.Widths.{offset-fits}
 use Rattle.runner.proofs.builder.append.Statement.{statement}
 use Rattle.runner.proofs.builder.append.Tie as tie
 
+-- what relabelling asks
+asks-list : {f t first count : ℕ} {L K B E : List ℕ} → first ≡ getD B (21 * f + 0) 0 → count ≡ getD B (21 * f + 1) 0 → CanAppend f t L K B E → CanRelabel L K first count
+unfolding headAt
+asks-list e d p = rw (e, d) (p .list)
+
+-- and what it leaves
+relabelled : (f t : ℕ) (L K B : List ℕ) {L′ : List ℕ} {first count : ℕ} → first ≡ getD B (21 * f + 0) 0 → count ≡ getD B (21 * f + 1) 0 → L′ ≡ rules.relabel t (walk (λ p. getD K p 0) first count) L
+    → L′ ≡ rules.relabel t (walk (λ p. getD K p 0) (headAt B f .first) (headAt B f .count)) L
+unfolding headAt
+relabelled f t L K B e d labels = rw (← e, ← d) labels
+
 -- with the heads that are loaded
-module _ {f t : ℕ} {L K B E : List ℕ} {from : Head} (given : from ≡ headAt B f) where
-  -- what relabelling asks
-  asks-list : CanAppend f t L K B E → CanRelabel L K (from .first) (from .count)
-  asks-list p = rw given (p .list)
+module _ {f t : ℕ} {L K B E : List ℕ} {from to : Head} (given : from ≡ headAt B f) (met : to ≡ headAt B t) where
+  -- what linking asks
+  asks-link : CanAppend f t L K B E → 0 < to .count → (0 < getD E t 0) × (getD E t 0 ≤ length K)
+  asks-link p = rw met (p .to .tail)
 
-  module _ {to : Head} (met : to ≡ headAt B t) where
-    -- what linking asks
-    asks-link : CanAppend f t L K B E → 0 < to .count → (0 < getD E t 0) × (getD E t 0 ≤ length K)
-    asks-link p = rw met (p .to .tail)
+  -- what adding the heads asks
+  asks-sum : CanAppend f t L K B E → (to .count + from .count < 4000000) × Adds (sumOf (to .sum)) (sumOf (from .sum))
+  asks-sum p = rw (given, met) (omega (arith, p .from .count, p .to .count), p .sum)
 
-    -- what adding the heads asks
-    asks-sum : CanAppend f t L K B E → (to .count + from .count < 4000000) × Adds (sumOf (to .sum)) (sumOf (from .sum))
-    asks-sum p = rw (given, met) (omega (arith, p .from .count, p .to .count), p .sum)
-
-    -- the list is appended
-    appended : {L′ K′ B′ E′ : List ℕ} {r : Head} → L′ ≡ rules.relabel t (walk (λ p. getD K p 0) (from .first) (from .count)) L → K′ ≡ linkAfter K (to .count) (getD E t 0) (from .first)
-        → ((a b : Cluster) → to ≡ headOf a → from ≡ headOf b → r ≡ headOf (withCluster b a)) → B′ ≡ savedHead B t r → E′ ≡ (if eqb (from .count) 0 then E else set E t (getD E f 0))
-        → Appended f t L K B E L′ K′ B′ E′
-    appended relabelled linked joined saved moved = record {
-      labels = rw (← given) relabelled;
-      links = rw (← given, ← met) linked;
-      table = λ a b p q. saved ∙ ap (savedHead B t) (joined a b (met ∙ p) (given ∙ q));
-      ends = rw (← given) moved;
-    }
+  -- the list is appended
+  appended : {L′ K′ B′ E′ : List ℕ} {first count : ℕ} {r : Head} → first ≡ getD B (21 * f + 0) 0 → count ≡ getD B (21 * f + 1) 0 → L′ ≡ rules.relabel t (walk (λ p. getD K p 0) first count) L → K′ ≡ linkAfter K (to .count) (getD E t 0) (from .first)
+      → ((a b : Cluster) → to ≡ headOf a → from ≡ headOf b → r ≡ headOf (withCluster b a)) → B′ ≡ savedHead B t r → E′ ≡ (if eqb (from .count) 0 then E else set E t (getD E f 0))
+      → Appended f t L K B E L′ K′ B′ E′
+  appended e d labels linked joined saved moved = record {
+    labels = relabelled f t L K B e d labels;
+    links = rw (← given, ← met) linked;
+    table = λ a b p q. saved ∙ ap (savedHead B t) (joined a b (met ∙ p) (given ∙ q));
+    ends = rw (← given) moved;
+  }
 
 returns : tie.Need-returns
-returns c = appended (c .before .before .before .before .before .before .before .before .before .before .before .before .before .before .before .before .before .before .before .before .before .load-head .ensures) (c .before .before .before .before .before .before .before .before .before .before .before .before .before .before .before .before .before .before .before .load-head2 .ensures) (c .before .before .before .before .before .before .before .before .before .before .before .before .before .before .before .before .relabel .ensures) (c .before .before .before .before .before .before .before .before .before .before .before .link-after .ensures) (c .before .before .before .with-cluster .ensures) (c .before .before .save-head .ensures) (c .before .before .before .before .before .before .before .move-tail .ensures)
+returns c =
+    appended (c .before .before .before .before .before .before .before .before .before .before .before .before .before .before .before .before .load-head .ensures) (c .before .before .before .before .before .before .before .before .before .before .before .before .before .before .load-head2 .ensures)
+    (c .before .before .before .before .before .before .before .before .before .before .before .before .before .before .before .before .before .before .before .before .before .before .before .first-pixel .ensures) (c .before .before .before .before .before .before .before .before .before .before .before .before .before .before .before .before .before .before .before .before .before .count-of .ensures) (c .before .before .before .before .before .before .before .before .before .before .before .before .before .before .before .before .before .before .before .before .relabel .ensures) (c .before .before .before .before .before .before .before .before .before .before .before .link-after .ensures) (c .before .before .before .with-cluster .ensures) (c .before .before .save-head .ensures)
+    (c .before .before .before .before .before .before .before .move-tail .ensures)
 
 pub append-spec : {M : Type 1} → statement M
 append-spec =
     tie.close
     (tie.spec
-    (λ c κs. c .before .before .before .before .before .pre .from .slot)
-    (λ c κs. c .before .before .before .before .before .before .before .pre .to .slot)
-    (λ c κs. asks-list (c .before .before .before .before .load-head .ensures) (c .before .before .before .before .before .before .before .before .before .before .pre))
-    (λ c. offset-fits (c .before .before .before .before .before .before .before .before .before .before .before .before .before .before .fits .t))
-    (λ c. c .before .before .before .before .before .before .before .before .before .before .before .before .before .before .before .pre .to .end)
-    (λ c κs. asks-link (c .before .before .before .before .before .before .before .before .before .load-head .ensures) (c .before .before .before .before .before .before .before .load-head2 .ensures) (c .before .before .before .before .before .before .before .before .before .before .before .before .before .before .before .pre))
-    (λ c κs. (c .before .before .before .before .before .before .before .before .before .before .before .before .before .before .before .before .before .before .before .pre .from .end, c .before .before .before .before .before .before .before .before .before .before .before .before .before .before .before .before .before .before .before .pre .to .end))
-    (λ c κs. asks-sum (c .before .before .before .before .before .before .before .before .before .before .before .before .before .before .before .before .before .load-head .ensures) (c .before .before .before .before .before .before .before .before .before .before .before .before .before .before .before .load-head2 .ensures) (c .before .before .before .before .before .before .before .before .before .before .before .before .before .before .before .before .before .before .before .before .before .before .before .pre))
-    (λ c κs. c .before .before .before .before .before .before .before .before .before .before .before .before .before .before .before .before .before .before .before .before .before .before .before .before .pre .to .slot)
-    (λ c. c .before .before .before .before .before .before .before .before .before .before .before .before .before .before .before .before .relabel .kept .0)
-    (λ c. c .before .before .before .before .before .before .before .before .before .before .before .link-after .kept .0)
-    (λ c. c .before .before .save-head .kept .0)
-    (λ c. c .before .before .before .before .before .before .before .move-tail .kept .0)
+    (search needs)
+    (search needs)
+    (λ c κs. asks-list (c .before .before .first-pixel .ensures) (c .count-of .ensures) (c .before .before .before .before .before .before .before .before .before .before .pre))
+    (search needs)
+    (search needs)
+    (λ c. offset-fits (c .before .before .before .before .before .before .before .before .before .before .before .before .before .before .before .before .before .before .fits .t))
+    (λ c. c .before .before .before .before .before .before .before .before .before .before .before .before .before .before .before .before .before .before .before .pre .to .end)
+    (λ c κs. asks-link (c .before .before .before .before .load-head .ensures) (c .before .before .load-head2 .ensures) (c .before .before .before .before .before .before .before .before .before .before .before .before .before .before .before .before .before .before .before .pre))
+    (λ c κs. (c .before .before .before .before .before .before .before .before .before .before .before .before .before .before .before .before .before .before .before .before .before .before .before .pre .from .end, c .before .before .before .before .before .before .before .before .before .before .before .before .before .before .before .before .before .before .before .before .before .before .before .pre .to .end))
+    (λ c κs. asks-sum (c .before .before .before .before .before .before .before .before .before .before .before .before .load-head .ensures) (c .before .before .before .before .before .before .before .before .before .before .load-head2 .ensures) (c .before .before .before .before .before .before .before .before .before .before .before .before .before .before .before .before .before .before .before .before .before .before .before .before .before .before .before .pre))
+    (λ c κs. c .before .before .before .before .before .before .before .before .before .before .before .before .before .before .before .before .before .before .before .before .before .before .before .before .before .before .before .before .pre .to .slot)
+    (λ c. c .before .before .before .before .before .before .before .before .before .before .before .before .before .before .before .before .before .before .before .before .relabel .kept .0)
+    (search needs)
+    (search needs)
+    (search needs)
     returns)
