@@ -14,6 +14,7 @@ use borrow.Author.Tests.{ltb-false, eqb-true}
 use Rattle.rules.specs.Base.{apart}
 use Rattle.rules.specs.Color.{Color, ColorSum, _⊕_, atMost, equalColor, shiftOf, colorSame}
 use Rattle.rules.specs.Refusals.{largestTotal, sumAnswer}
+use Rattle.rules.specs.Calls.{sumCall}
 use Rattle.rules.proofs.Accepted.{passed, neither}
 use Rattle.rules.proofs.Facts.{both-true}
 
@@ -62,3 +63,8 @@ totals-fit x y h =
     let g = neither _ _ (b .0) in
     let r = neither _ _ (g .0) in
     (ltb-false _ _ (r .0), ltb-false _ _ (r .1), ltb-false _ _ (g .1), ltb-false _ _ (b .1), ltb-false _ _ (a .1))
+
+-- and its sum
+pub sum-taken : (x y : ColorSum) → sumAnswer x y ≡ 0 → sumCall x y ≡ x ⊕ y
+unfolding sumCall
+sum-taken x y e = rw (e) refl

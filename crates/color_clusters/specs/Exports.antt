@@ -9,15 +9,17 @@ use Rattle.rules.specs.Color.{RunnerConfig, KeyingAction, Keep, Discard, rgba}
 abbrev pub actionAt : ℕ → KeyingAction
 actionAt action = if eqb action 0 then Keep else Discard
 
+-- the settings, put together
 abbrev pub settings : ℤ → ℤ → ℕ → ℕ → ℕ → ℕ → ℤ → ℕ → ℕ → ℕ → ℕ → ℕ → RunnerConfig
-settings isSameColorA isSameColorB hierarchical goodMinArea goodMaxArea hollowNeighbours deepenDiff r g b a action = record {
-  isSameColorA = isSameColorA;
-  isSameColorB = isSameColorB;
-  hierarchical = hierarchical;
-  goodMinArea = goodMinArea;
-  goodMaxArea = goodMaxArea;
-  hollowNeighbours = hollowNeighbours;
-  deepenDiff = deepenDiff;
-  keyColor = rgba r g b a;
-  keyingAction = actionAt action;
-}
+settings isSameColorA isSameColorB hierarchical goodMinArea goodMaxArea hollowNeighbours deepenDiff r g b a action
+    = record {
+      isSameColorA = isSameColorA;
+      isSameColorB = isSameColorB;
+      hierarchical = hierarchical;
+      goodMinArea = goodMinArea;
+      goodMaxArea = goodMaxArea;
+      hollowNeighbours = hollowNeighbours;
+      deepenDiff = deepenDiff;
+      keyColor = rgba r g b a;
+      keyingAction = actionAt action;
+    }

@@ -2,7 +2,7 @@
 ghost use mathlib.Core.Path.{_≡_};
 ghost use lib.ListN.{length};
 ghost use Rattle.rules.specs.Refusals.{rowAnswer};
-ghost use Rattle.rules.specs.Calls.{runCall, paintCall, runAndPaintCall, storeCall};
+ghost use Rattle.rules.specs.Calls.{asBuffers, answered, withPicture, runCall, paintCall, runAndPaintCall, storeCall};
 ghost use Rattle.rules.specs.Demand3.{Demand3Left};
 ghost use Rattle.runner.specs.Types.{actionOf, configOf};
 ghost use Rattle.color_clusters.specs.Exports.{actionAt, settings};
@@ -36,7 +36,9 @@ fn config(
     key_a: u8,
     action: u32,
 ) -> RunnerConfig
-    ensures { λ r. ⌜ configOf r ≡ settings «is_same_color_a» «is_same_color_b» hierarchical «good_min_area» «good_max_area» «hollow_neighbours» «deepen_diff» «key_r» «key_g» «key_b» «key_a» action ⌝ }
+    ensures { λ r. ⌜ configOf r
+        ≡ settings «is_same_color_a» «is_same_color_b» hierarchical «good_min_area» «good_max_area» «hollow_neighbours»
+        «deepen_diff» «key_r» «key_g» «key_b» «key_a» action ⌝ }
 {
     let key_color = Color {
         r: key_r,
@@ -82,7 +84,13 @@ pub extern "C" fn color_clusters_run(
     outputs: &mut [u32],
     work: &mut [u32],
 ) -> Answer
-    ensures { λ r. ⌜ record { number = r .number; n = r .n; m = r .m; buffers = record { labels = now (labels .exit); links = now (links .exit); table = now (table .exit); outputs = now (outputs .exit); work = now (work .exit) } } ≡ runCall (settings «is_same_color_a» «is_same_color_b» hierarchical «good_min_area» «good_max_area» «hollow_neighbours» «deepen_diff» «key_r» «key_g» «key_b» «key_a» action) w h (now (image .entry)) (record { labels = now (labels .entry); links = now (links .entry); table = now (table .entry); outputs = now (outputs .entry); work = now (work .entry) }) ⌝ }
+    ensures { λ r. ⌜ answered (r .number) (r .n) (r .m)
+        (asBuffers (now (labels .exit)) (now (links .exit)) (now (table .exit)) (now (outputs .exit))
+        (now (work .exit)))
+        ≡ runCall (settings «is_same_color_a» «is_same_color_b» hierarchical «good_min_area» «good_max_area»
+        «hollow_neighbours» «deepen_diff» «key_r» «key_g» «key_b» «key_a» action) w h (now (image .entry))
+        (asBuffers (now (labels .entry)) (now (links .entry)) (now (table .entry)) (now (outputs .entry))
+        (now (work .entry))) ⌝ }
 {
     let o = config(
         is_same_color_a,
@@ -126,8 +134,17 @@ pub extern "C" fn color_clusters_run_and_paint(
     work: &mut [u32],
     picture: &mut [u8],
 ) -> Answer
-    ensures { λ r. ⌜ record { ran = record { number = r .number; n = r .n; m = r .m; buffers = record { labels = now (labels .exit); links = now (links .exit); table = now (table .exit); outputs = now (outputs .exit); work = now (work .exit) } }; picture = now (picture .exit) } ≡ runAndPaintCall (settings «is_same_color_a» «is_same_color_b» hierarchical «good_min_area» «good_max_area» «hollow_neighbours» «deepen_diff» «key_r» «key_g» «key_b» «key_a» action) w h (now (image .entry)) (record { labels = now (labels .entry); links = now (links .entry); table = now (table .entry); outputs = now (outputs .entry); work = now (work .entry) }) (now (picture .entry)) ⌝ }
-    ensures { λ r. ⌜ (r .number ≡ 0 → Demand3Left (settings «is_same_color_a» «is_same_color_b» hierarchical «good_min_area» «good_max_area» «hollow_neighbours» «deepen_diff» «key_r» «key_g» «key_b» «key_a» action) w h (now (image .entry)) (r .n) (now (labels .exit)) (now (links .exit)) (now (table .exit)) (now (picture .exit))) ⌝ }
+    ensures call { λ r. ⌜ withPicture (answered (r .number) (r .n) (r .m)
+        (asBuffers (now (labels .exit)) (now (links .exit)) (now (table .exit)) (now (outputs .exit))
+        (now (work .exit)))) (now (picture .exit))
+        ≡ runAndPaintCall (settings «is_same_color_a» «is_same_color_b» hierarchical «good_min_area» «good_max_area»
+        «hollow_neighbours» «deepen_diff» «key_r» «key_g» «key_b» «key_a» action) w h (now (image .entry))
+        (asBuffers (now (labels .entry)) (now (links .entry)) (now (table .entry)) (now (outputs .entry))
+        (now (work .entry))) (now (picture .entry)) ⌝ }
+    ensures demand3 { λ r. ⌜ (r .number ≡ 0
+        → Demand3Left (settings «is_same_color_a» «is_same_color_b» hierarchical «good_min_area» «good_max_area»
+        «hollow_neighbours» «deepen_diff» «key_r» «key_g» «key_b» «key_a» action) w h (now (image .entry))
+        (r .n) (now (labels .exit)) (now (links .exit)) (now (table .exit)) (now (picture .exit))) ⌝ }
 {
     let o = config(
         is_same_color_a,
@@ -158,7 +175,8 @@ pub extern "C" fn color_clusters_paint(
     n: u32,
     m: u32,
 ) -> u32
-    ensures { λ r. ⌜ record { answer = r; picture = now (picture .exit) } ≡ paintCall w h (now (links .entry)) (now (table .entry)) (now (outputs .entry)) (now (picture .entry)) n m ⌝ }
+    ensures { λ r. ⌜ record { answer = r; picture = now (picture .exit) }
+        ≡ paintCall w h (now (links .entry)) (now (table .entry)) (now (outputs .entry)) (now (picture .entry)) n m ⌝ }
 {
     container::to_color_image(w, h, links, table, outputs, picture, n, m)
 }
@@ -184,7 +202,9 @@ pub extern "C" fn color_clusters_store(
     n: u32,
     m: u32,
 ) -> u32
-    ensures { λ r. ⌜ record { answer = r; destination = now (destination .exit) } ≡ storeCall w h (now (labels .entry)) (now (links .entry)) (now (table .entry)) (now (outputs .entry)) (now (destination .entry)) n m ⌝ }
+    ensures { λ r. ⌜ record { answer = r; destination = now (destination .exit) }
+        ≡ storeCall w h (now (labels .entry)) (now (links .entry)) (now (table .entry)) (now (outputs .entry))
+        (now (destination .entry)) n m ⌝ }
 {
     sheet::store(w, h, labels, links, table, outputs, destination, n, m)
 }

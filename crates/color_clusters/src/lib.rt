@@ -1,4 +1,5 @@
-// A run and its picture in one call, with demand 3 of what they leave, and the calls for C and Rust over all of the library.
+// A run and its picture in one call, with demand 3 of what they leave, and the calls for C and Rust over all of the
+// library.
 pub mod exports;
 
 ghost use mathlib.Core.Path.{_≡_};
@@ -7,7 +8,7 @@ ghost use lib.ListN.{length};
 ghost use Rattle.rules.specs.Refusals.{runAndPaintAnswer};
 ghost use Rattle.rules.specs.Run.{run};
 ghost use Rattle.rules.specs.Picture.{paint};
-ghost use Rattle.rules.specs.Calls.{runAndPaintCall};
+ghost use Rattle.rules.specs.Calls.{asBuffers, answered, withPicture, runAndPaintCall};
 ghost use Rattle.rules.specs.Calls as rules;
 ghost use Rattle.rules.specs.Demand3.{Demand3Left};
 ghost use Rattle.runner.specs.Types.{configOf};
@@ -52,8 +53,14 @@ fn run_then_paint(
     work: &mut [u32],
     picture: &mut [u8],
 ) -> Answer
-    requires { ⌜ runAndPaintAnswer w h (configOf o) (length (now image)) (length (now labels)) (length (now links)) (length (now table)) (length (now outputs)) (length (now work)) (length (now picture)) ≡ 0 ⌝ }
-    ensures { λ r. ⌜ (record { number = r .number; n = r .n; m = r .m; buffers = record { labels = now (labels .exit); links = now (links .exit); table = now (table .exit); outputs = now (outputs .exit); work = now (work .exit) } } ≡ rules.accepted (configOf o) w h (now (image .entry)) (record { labels = now (labels .entry); links = now (links .entry); table = now (table .entry); outputs = now (outputs .entry); work = now (work .entry) })) × (now (picture .exit) ≡ paint (w * h) (run (configOf o) w h (now (image .entry)))) ⌝ }
+    requires { ⌜ runAndPaintAnswer w h (configOf o) (length (now image)) (length (now labels)) (length (now links))
+        (length (now table)) (length (now outputs)) (length (now work)) (length (now picture)) ≡ 0 ⌝ }
+    ensures { λ r. ⌜ (answered (r .number) (r .n) (r .m)
+        (asBuffers (now (labels .exit)) (now (links .exit)) (now (table .exit)) (now (outputs .exit))
+        (now (work .exit)))
+        ≡ rules.accepted (configOf o) w h (now (image .entry))
+        (asBuffers (now (labels .entry)) (now (links .entry)) (now (table .entry)) (now (outputs .entry))
+        (now (work .entry)))) × (now (picture .exit) ≡ paint (w * h) (run (configOf o) w h (now (image .entry)))) ⌝ }
 {
     let a = runner::run(o, w, h, image, labels, links, table, outputs, work);
     let number = container::to_color_image(w, h, links, table, outputs, picture, a.n, a.m);
@@ -64,7 +71,8 @@ fn run_then_paint(
     }
 }
 
-// `run`, and then its picture: demand 3 of what is left. A number other than 0 refuses the call, which changes nothing; no check refuses the painting of a run.
+// `run`, and then its picture: demand 3 of what is left. A number other than 0 refuses the call, which changes nothing;
+// no check refuses the painting of a run.
 pub fn run_and_paint(
     o: RunnerConfig,
     w: u32,
@@ -77,8 +85,15 @@ pub fn run_and_paint(
     work: &mut [u32],
     picture: &mut [u8],
 ) -> Answer
-    ensures { λ r. ⌜ record { ran = record { number = r .number; n = r .n; m = r .m; buffers = record { labels = now (labels .exit); links = now (links .exit); table = now (table .exit); outputs = now (outputs .exit); work = now (work .exit) } }; picture = now (picture .exit) } ≡ runAndPaintCall (configOf o) w h (now (image .entry)) (record { labels = now (labels .entry); links = now (links .entry); table = now (table .entry); outputs = now (outputs .entry); work = now (work .entry) }) (now (picture .entry)) ⌝ }
-    ensures { λ r. ⌜ (r .number ≡ 0 → Demand3Left (configOf o) w h (now (image .entry)) (r .n) (now (labels .exit)) (now (links .exit)) (now (table .exit)) (now (picture .exit))) ⌝ }
+    ensures call { λ r. ⌜ withPicture (answered (r .number) (r .n) (r .m)
+        (asBuffers (now (labels .exit)) (now (links .exit)) (now (table .exit)) (now (outputs .exit))
+        (now (work .exit)))) (now (picture .exit))
+        ≡ runAndPaintCall (configOf o) w h (now (image .entry))
+        (asBuffers (now (labels .entry)) (now (links .entry)) (now (table .entry)) (now (outputs .entry))
+        (now (work .entry))) (now (picture .entry)) ⌝ }
+    ensures demand3 { λ r. ⌜ (r .number ≡ 0
+        → Demand3Left (configOf o) w h (now (image .entry))
+        (r .n) (now (labels .exit)) (now (links .exit)) (now (table .exit)) (now (picture .exit))) ⌝ }
 {
     let refusal = run_and_paint_answer(
         o,

@@ -18,17 +18,17 @@ use Rattle.rules.specs.Claim.{bit, occurs, countOf}
 use Rattle.rules.proofs.Facts.{eqb-yes, eqb-no, countOf-lt}
 use Rattle.rules.proofs.Painting.{pixel-same, pixel-other, each-length, each-in}
 use Rattle.rules.proofs.Layouts.{spread, spread-at}
-use Rattle.container.specs.Leads.{Leads}
-use Rattle.container.specs.Filled.{bytesOf, filled}
+use Rattle.container.specs.Code.Leads.{Leads}
+use Rattle.container.specs.Code.Uniform.{bytesOf, uniform}
 
 -- ---- a picture of one colour
 
-filled-length : (c : Color) (size : ℕ) → length (filled c size) ≡ 4 * size
-unfolding filled
+filled-length : (c : Color) (size : ℕ) → length (uniform c size) ≡ 4 * size
+unfolding uniform
 filled-length c size = spread (λ p. bytesOf c) 4 (λ p. refl) size
 
-filled-at : (c : Color) (size p j : ℕ) → p < size → j < 4 → getD (filled c size) (4 * p + j) 0 ≡ getD (bytesOf c) j 0
-unfolding filled
+filled-at : (c : Color) (size p j : ℕ) → p < size → j < 4 → getD (uniform c size) (4 * p + j) 0 ≡ getD (bytesOf c) j 0
+unfolding uniform
 filled-at c size p j l b = spread-at (λ p. bytesOf c) 4 (λ p. refl) size p j l b
 
 byte : (l : List ℕ) (p j : ℕ) → j < 4 → getD l (4 * p + j) 0 ≡ getD (bytesOf (pixel l p)) j 0
@@ -50,10 +50,10 @@ Begins n c l = (p : ℕ) → p < n → pixel l p ≡ c
 pub begins-more : (c : Color) (n : ℕ) (l : List ℕ) → 4 * n + 3 < length l → Begins n c l → Begins (n + 1) c (paintPixel c n l)
 begins-more c n l h f p b = elim (ℕ-discrete p n) [ yes e ↦ rw e (pixel-same c n l h) | no d ↦ pixel-other c n l p d ∙ f p (omega arith) ]
 
-pub begins-all : (c : Color) (size : ℕ) (l : List ℕ) → length l ≡ 4 * size → Begins size c l → l ≡ filled c size
+pub begins-all : (c : Color) (size : ℕ) (l : List ℕ) → length l ≡ 4 * size → Begins size c l → l ≡ uniform c size
 begins-all c size l e f =
-    ext-getD 0 l (filled c size) (e ∙ sym (filled-length c size))
-    (split (λ i. i < length l → getD l i 0 ≡ getD (filled c size) i 0)
+    ext-getD 0 l (uniform c size) (e ∙ sym (filled-length c size))
+    (split (λ i. i < length l → getD l i 0 ≡ getD (uniform c size) i 0)
     (λ p j b h. let m : p < size = omega arith in byte l p j b ∙ ap (λ x. getD (bytesOf x) j 0) (f p m) ∙ sym (filled-at c size p j m b)))
 
 -- ---- a list of all pixels
@@ -120,7 +120,7 @@ module _ (size : ℕ) (links : List ℕ) where
 
 -- painting a list of size pixels that ends fills the picture
 pub whole-fill : (size : ℕ) (links : List ℕ) (first : ℕ) (c : Color) (picture : List ℕ) → length picture ≡ 4 * size → Leads size links first size 0
-    → each (walk (λ p. getD links p 0) first size) (paintPixel c) picture ≡ filled c size
+    → each (walk (λ p. getD links p 0) first size) (paintPixel c) picture ≡ uniform c size
 unfolding pixels
 whole-fill size links first c picture e a =
     let ps = walk (λ p. getD links p 0) first size in

@@ -12,8 +12,9 @@ use lib.Dec.{T, eqb, ltb, leb, ltb→lt}
 use lib.ListN.{getD}
 use Rattle.rules.specs.Base.{if_then_else_, timesBack}
 use Rattle.rules.specs.Color.{hasAverage}
-use Rattle.rules.specs.Paint.{reads, slotNumber, residueOf, entryAnswer, entriesAnswer}
+use Rattle.rules.specs.Paint.{reads, slotNumber, slotResidue, entryAnswer, entriesAnswer}
 use Rattle.rules.proofs.Accepted.{passed, neither}
+use Rattle.rules.specs.Layout.{firstPixelPlace, pixelCountPlace}
 
 -- one turn, and the end, of a loop from last to first
 pub back-turn {ℓ} : {S : Type ℓ} (m : ℕ) (f : ℕ → S → S) (s : S) → 0 < m → timesBack m f s ≡ timesBack (m - 1) f (f (m - 1) s)
@@ -65,17 +66,17 @@ module _ (size n : ℕ) (links table outputs : List ℕ) where
 -- slot k has passed checks 8, 9 and 10
 pub record Passed (size n : ℕ) (links table : List ℕ) (k : ℕ) : Type 0 where
   pub slot : k < n
-  pub average : T (hasAverage (residueOf table k))
-  pub listed : T (reads size links (slotNumber table k 0) (slotNumber table k 1))
+  pub average : T (hasAverage (slotResidue table k))
+  pub listed : T (reads size links (slotNumber table k firstPixelPlace) (slotNumber table k pixelCountPlace))
 
 pub entry-passed : (size n : ℕ) (links table : List ℕ) (k : ℕ) → entryAnswer size n links table k ≡ 0 → Passed size n links table k
 unfolding entryAnswer
 entry-passed size n links table k e =
     let a = passed 7 (not (ltb k n)) _ e in
-    let b = passed 8 (not (hasAverage (residueOf table k))) _ (a .1) in
-    let listed = reads size links (slotNumber table k 0) (slotNumber table k 1) in
-    let d = neither (not (leb (slotNumber table k 1) size)) (not listed) (passed 9 _ 0 (b .1) .0) in
-    record { slot = ltb→lt k n (holds (ltb k n) (a .0)); average = holds (hasAverage (residueOf table k)) (b .0); listed = holds listed (d .1) }
+    let b = passed 8 (not (hasAverage (slotResidue table k))) _ (a .1) in
+    let listed = reads size links (slotNumber table k firstPixelPlace) (slotNumber table k pixelCountPlace) in
+    let d = neither (not (leb (slotNumber table k pixelCountPlace) size)) (not listed) (passed 9 _ 0 (b .1) .0) in
+    record { slot = ltb→lt k n (holds (ltb k n) (a .0)); average = holds (hasAverage (slotResidue table k)) (b .0); listed = holds listed (d .1) }
   where
     holds : (b : Bool) → not b ≡ false → T b
     holds true x = tt

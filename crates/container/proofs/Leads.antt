@@ -10,7 +10,7 @@ use lib.ListN.{getD}
 use Rattle.rules.specs.Layout.{walk}
 use Rattle.rules.specs.Paint.{reads}
 use Rattle.rules.proofs.Facts.{T-and, T-both}
-use Rattle.container.specs.Leads.{Leads}
+use Rattle.container.specs.Code.Leads.{Leads}
 
 none-add : (d : ℕ) → 0 + d ≡ d
 none-add d = omega arith

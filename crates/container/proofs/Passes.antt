@@ -11,10 +11,11 @@ use borrow.Author.Tests.{ltb-true, leb-true, lt-ltb, le-leb}
 use lib.Dec.{T, leb, ltb}
 use lib.ListN.{length, getD}
 use Rattle.rules.specs.Color.{hasAverage}
-use Rattle.rules.specs.Paint.{reads, slotNumber, residueOf, entryAnswer, entriesAnswer}
+use Rattle.rules.specs.Paint.{reads, slotNumber, slotResidue, entryAnswer, entriesAnswer}
 use Rattle.rules.proofs.Facts.{is-true, both-true}
 use Rattle.rules.proofs.Walks.{reads-none}
-use Rattle.container.specs.Quick.{NumbersPass, ListPasses, PassFrom, EntriesFit}
+use Rattle.rules.specs.Layout.{slotWidth, firstPixelPlace, pixelCountPlace}
+use Rattle.container.specs.Code.Quick.{NumbersPass, ListPasses, PassFrom, EntriesFit}
 
 pub never {ℓ} : {A : Type ℓ} → false ≡ true → A
 never e = absurd (subst T (sym e) tt)
@@ -40,7 +41,7 @@ on-sheet i k size a b c d e =
     let t1 = both-true (ltb i k) (ltb 0 a) (t2 .0) in
     (ltb-true _ _ (t1 .0), (ltb-true _ _ (t1 .1), leb-true _ _ (t2 .1)), (ltb-true _ _ (t3 .1), leb-true _ _ (t4 .1)), (ltb-true _ _ (t5 .1), leb-true _ _ (t6 .1)), (ltb-true _ _ (t7 .1), leb-true _ _ (t8 .1)))
 
-pub entries-fit : {table outputs : List ℕ} {n m : ℕ} → 21 * n ≤ length table → m ≤ length outputs → ((i : ℕ) → i < m → getD outputs i 0 < n) → EntriesFit table outputs m
+pub entries-fit : {table outputs : List ℕ} {n m : ℕ} → slotWidth * n ≤ length table → m ≤ length outputs → ((i : ℕ) → i < m → getD outputs i 0 < n) → EntriesFit table outputs m
 entries-fit t o b = record { within = o; slots = λ i l. omega (arith, b i l) }
 
 pub fewer-fit : {table outputs : List ℕ} {m left : ℕ} → EntriesFit table outputs m → left ≤ m → EntriesFit table outputs left
@@ -74,9 +75,9 @@ unfolding entryAnswer
 entry-zero size n links table k p r =
     rw (
       lt-ltb k n (p .0),
-      is-true (hasAverage (residueOf table k)) (p .1),
-      le-leb (slotNumber table k 1) size (p .2),
-      is-true (reads size links (slotNumber table k 0) (slotNumber table k 1)) r,
+      is-true (hasAverage (slotResidue table k)) (p .1),
+      le-leb (slotNumber table k pixelCountPlace) size (p .2),
+      is-true (reads size links (slotNumber table k firstPixelPlace) (slotNumber table k pixelCountPlace)) r,
     )
 
 -- entries that pass both answer 0

@@ -14,8 +14,8 @@ use Rattle.rules.specs.Layout.{walk}
 use Rattle.rules.specs.Picture.{paintPixel}
 use Rattle.rules.specs.Paint.{reads}
 use Rattle.rules.proofs.Walks.{step, walk-none}
-use Rattle.container.specs.Leads.{Leads}
-use Rattle.container.specs.Stretch.{paintAlong}
+use Rattle.container.specs.Code.Leads.{Leads}
+use Rattle.container.specs.Code.Stretch.{paintAlong}
 use Rattle.container.proofs.Leads.{leads-on, leads-more, leads-reads, reads-leads, leads-walk}
 
 set-sets : (vs l : List ℕ) (i j b : ℕ) → ((t : ℕ) → t < length vs → i + t ≢ j) → set (sets l i vs) j b ≡ sets (set l j b) i vs

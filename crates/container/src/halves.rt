@@ -6,8 +6,8 @@ ghost use lib.ListN.{length};
 ghost use Rattle.rules.specs.Picture.{paintPixel};
 ghost use Rattle.rules.specs.Paint.{reads};
 ghost use Rattle.color.specs.Colors.{colorOf};
-ghost use Rattle.container.specs.Leads.{Leads};
-ghost use Rattle.container.specs.Stretch.{paintAlong};
+ghost use Rattle.container.specs.Code.Leads.{Leads};
+ghost use Rattle.container.specs.Code.Stretch.{paintAlong};
 use crate::quick;
 use color::Color;
 
@@ -54,8 +54,13 @@ fn paint_both(
     count: u32,
     c: Color,
 ) -> u32
-    requires { ⌜ (size ≤ length (now links)) × (4 * size ≤ length (now picture)) × T (reads size (now links) first count) × T (reads size (now links) mid count) ⌝ }
-    ensures { λ r. ⌜ Leads size (now (links .entry)) mid count r × (now (picture .exit) ≡ paintAlong (colorOf c) (now (links .entry)) mid count (paintAlong (colorOf c) (now (links .entry)) first count (now (picture .entry)))) ⌝ }
+    requires { ⌜ (size ≤ length (now links)) × (4 * size ≤ length (now picture))
+        × T (reads size (now links) first count) × T (reads size (now links) mid count) ⌝ }
+    ensures { λ r. ⌜ Leads size (now (links .entry)) mid count r
+        × (now (picture .exit)
+        ≡ paintAlong (colorOf c)
+        (now (links .entry)) mid count (paintAlong (colorOf c) (now (links .entry)) first count (now (picture .entry))))
+        ⌝ }
 {
     let mut x = first;
     let mut y = mid;
@@ -81,8 +86,15 @@ fn paint_both_and_look(
     count: u32,
     c: Color,
 ) -> Cursors
-    requires { ⌜ (size ≤ length (now links)) × (4 * size ≤ length (now picture)) × T (reads size (now links) (at .x) count) × T (reads size (now links) (at .y) count) × T (reads size (now links) (at .z) count) ⌝ }
-    ensures { λ r. ⌜ Leads size (now (links .entry)) (at .x) count (r .x) × Leads size (now (links .entry)) (at .y) count (r .y) × Leads size (now (links .entry)) (at .z) count (r .z) × (now (picture .exit) ≡ paintAlong (colorOf c) (now (links .entry)) (at .y) count (paintAlong (colorOf c) (now (links .entry)) (at .x) count (now (picture .entry)))) ⌝ }
+    requires { ⌜ (size ≤ length (now links)) × (4 * size ≤ length (now picture))
+        × T (reads size (now links) (at .x) count) × T (reads size (now links) (at .y) count)
+        × T (reads size (now links) (at .z) count) ⌝ }
+    ensures { λ r. ⌜ Leads size (now (links .entry)) (at .x) count (r .x)
+        × Leads size (now (links .entry)) (at .y) count (r .y) × Leads size (now (links .entry)) (at .z) count (r .z)
+        × (now (picture .exit)
+        ≡ paintAlong (colorOf c)
+        (now (links .entry)) (at .y) count
+        (paintAlong (colorOf c) (now (links .entry)) (at .x) count (now (picture .entry)))) ⌝ }
 {
     let mut x = at.x;
     let mut y = at.y;
@@ -111,8 +123,11 @@ pub(crate) fn paint_halves(
     ahead: u32,
     c: Color,
 ) -> u32
-    requires { ⌜ (size ≤ length (now links)) × (4 * size ≤ length (now picture)) × T (reads size (now links) (at .x) count) × Leads size (now links) (at .x) (count / 2) (at .y) × T (reads size (now links) (at .z) ahead) ⌝ }
-    ensures { λ r. ⌜ Leads size (now (links .entry)) (at .z) ahead r × (now (picture .exit) ≡ paintAlong (colorOf c) (now (links .entry)) (at .x) count (now (picture .entry))) ⌝ }
+    requires { ⌜ (size ≤ length (now links)) × (4 * size ≤ length (now picture))
+        × T (reads size (now links) (at .x) count) × Leads size (now links) (at .x) (count / 2) (at .y)
+        × T (reads size (now links) (at .z) ahead) ⌝ }
+    ensures { λ r. ⌜ Leads size (now (links .entry)) (at .z) ahead r
+        × (now (picture .exit) ≡ paintAlong (colorOf c) (now (links .entry)) (at .x) count (now (picture .entry))) ⌝ }
 {
     let half = count / 2;
     let both = quick::smaller(half, ahead);

@@ -4,12 +4,14 @@ ghost use mathlib.Core.Bool.{true};
 ghost use mathlib.Core.List.{List};
 ghost use Prim.Native.Nat.{ℕ, _+_, _*_, _≤_, _<_};
 ghost use lib.ListN.{length, getD};
-ghost use Rattle.container.specs.Quick.{NumbersPass, ListPasses, EntriesFit, Filled, Held};
+ghost use Rattle.rules.specs.Layout.{slotWidth};
+ghost use Rattle.container.specs.Code.Quick.{NumbersPass, ListPasses, EntriesFit, LanePasses, LanesPass};
 use crate::paint;
+use image::layout;
 
 // Whether slot k is below n, its residue has an average, and its count is at most size.
 fn slot_passes(table: &[u32], size: u32, n: u32, k: u32) -> bool
-    requires { ⌜ 21 * n ≤ length (now table) ⌝ }
+    requires { ⌜ slotWidth * n ≤ length (now table) ⌝ }
     ensures { λ r. ⌜ (r ≡ true → NumbersPass size n (now (table .entry)) k) ⌝ }
 {
     if n <= k {
@@ -18,13 +20,14 @@ fn slot_passes(table: &[u32], size: u32, n: u32, k: u32) -> bool
     if !paint::residue(table, k).has_average() {
         return false;
     }
-    table[21 * (k as usize) + 1] <= size
+    table[layout::SLOT_WIDTH * (k as usize) + layout::PIXEL_COUNT] <= size
 }
 
 // Whether each of m entries passes that.
 pub(crate) fn numbers_pass(table: &[u32], outputs: &[u32], size: u32, n: u32, m: u32) -> bool
-    requires { ⌜ (21 * n ≤ length (now table)) × (m ≤ length (now outputs)) ⌝ }
-    ensures { λ r. ⌜ (r ≡ true → (i : ℕ) → i < m → NumbersPass size n (now (table .entry)) (getD (now (outputs .entry)) i 0)) ⌝ }
+    requires { ⌜ (slotWidth * n ≤ length (now table)) × (m ≤ length (now outputs)) ⌝ }
+    ensures { λ r. ⌜ (r ≡ true → (i : ℕ) → i < m
+        → NumbersPass size n (now (table .entry)) (getD (now (outputs .entry)) i 0)) ⌝ }
 {
     let mut i = 0;
     while i < m {
@@ -56,19 +59,20 @@ struct Lanes {
     left: u32,
 }
 
-// A lane that holds l pixels from a; where l is 0, it takes the next entry that has pixels, from the last of m entries down.
+// A lane that holds l pixels from a; where l is 0, it takes the next entry that has pixels, from the last of m entries
+// down.
 fn filled(table: &[u32], outputs: &[u32], a: u32, l: u32, m: u32) -> Lane
     requires { ⌜ EntriesFit (now table) (now outputs) m ⌝ }
-    ensures { λ r. ⌜ (r .left ≤ m) × Filled (now (table .entry)) (now (outputs .entry)) a l m r ⌝ }
+    ensures { λ r. ⌜ (r .left ≤ m) × LanePasses (now (table .entry)) (now (outputs .entry)) a l m r ⌝ }
 {
     let mut at = a;
     let mut count = l;
     let mut left = m;
     while (count == 0) & (0 < left) {
         left = left - 1;
-        let b = 21 * (outputs[left as usize] as usize);
-        at = table[b + 0];
-        count = table[b + 1];
+        let b = layout::SLOT_WIDTH * (outputs[left as usize] as usize);
+        at = table[b + layout::FIRST_PIXEL];
+        count = table[b + layout::PIXEL_COUNT];
     }
     Lane { at, count, left }
 }
@@ -76,7 +80,9 @@ fn filled(table: &[u32], outputs: &[u32], a: u32, l: u32, m: u32) -> Lane
 // The four lanes, each filled.
 fn all_filled(table: &[u32], outputs: &[u32], x: Lanes) -> Lanes
     requires { ⌜ EntriesFit (now table) (now outputs) (x .left) ⌝ }
-    ensures { λ r. ⌜ (r .left ≤ x .left) × ((size : ℕ) (links : List ℕ) (m : ℕ) → Held size links (now (table .entry)) (now (outputs .entry)) m x → Held size links (now (table .entry)) (now (outputs .entry)) m r) ⌝ }
+    ensures { λ r. ⌜ (r .left ≤ x .left)
+        × ((size : ℕ) (links : List ℕ) (m : ℕ) → LanesPass size links (now (table .entry)) (now (outputs .entry)) m x
+        → LanesPass size links (now (table .entry)) (now (outputs .entry)) m r) ⌝ }
 {
     let y0 = filled(table, outputs, x.a0, x.l0, x.left);
     let y1 = filled(table, outputs, x.a1, x.l1, y0.left);
@@ -108,7 +114,9 @@ pub(crate) fn smaller(a: u32, b: u32) -> u32
 // Follows the links of all four lanes until one of them has no pixel left, or is not on the sheet.
 fn walked(links: &[u32], size: u32, x: Lanes) -> Lanes
     requires { ⌜ size ≤ length (now links) ⌝ }
-    ensures { λ r. ⌜ (r .left ≡ x .left) × ((table outputs : List ℕ) (m : ℕ) → Held size (now (links .entry)) table outputs m x → Held size (now (links .entry)) table outputs m r) ⌝ }
+    ensures { λ r. ⌜ (r .left ≡ x .left)
+        × ((table outputs : List ℕ) (m : ℕ) → LanesPass size (now (links .entry)) table outputs m x
+        → LanesPass size (now (links .entry)) table outputs m r) ⌝ }
 {
     let k = smaller(smaller(x.l0, x.l1), smaller(x.l2, x.l3));
     let mut a0 = x.a0;
@@ -145,7 +153,8 @@ fn walked(links: &[u32], size: u32, x: Lanes) -> Lanes
     }
 }
 
-// Whether the lists of m entries can be read: four at a time as long as entries are taken, and then the rests one after another.
+// Whether the lists of m entries can be read: four at a time as long as entries are taken, and then the rests one after
+// another.
 pub(crate) fn lists_pass(
     links: &[u32],
     table: &[u32],
@@ -154,8 +163,10 @@ pub(crate) fn lists_pass(
     n: u32,
     m: u32,
 ) -> bool
-    requires { ⌜ (size ≤ length (now links)) × (21 * n ≤ length (now table)) × (m ≤ length (now outputs)) × ((i : ℕ) → i < m → getD (now outputs) i 0 < n) ⌝ }
-    ensures { λ r. ⌜ (r ≡ true → (i : ℕ) → i < m → ListPasses size (now (links .entry)) (now (table .entry)) (getD (now (outputs .entry)) i 0)) ⌝ }
+    requires { ⌜ (size ≤ length (now links)) × (slotWidth * n ≤ length (now table)) × (m ≤ length (now outputs))
+        × ((i : ℕ) → i < m → getD (now outputs) i 0 < n) ⌝ }
+    ensures { λ r. ⌜ (r ≡ true → (i : ℕ) → i < m
+        → ListPasses size (now (links .entry)) (now (table .entry)) (getD (now (outputs .entry)) i 0)) ⌝ }
 {
     let mut before = m;
     let mut x = all_filled(

@@ -1,4 +1,7 @@
-// The size of an image: checks 2 and 3, which every call makes.
+// The size of an image: checks 2 and 3, which every call makes; and the layout of the cluster table, with the lengths
+// of check 5.
+pub mod layout;
+
 ghost use mathlib.Core.Path.{_≡_};
 ghost use Prim.Native.Nat.{_*_};
 ghost use Rattle.rules.specs.Refusals.{firstFailed, sizeChecks};

@@ -168,8 +168,8 @@ pub(crate) fn is_kept(
     (number == 0) & is_sheet(sheet, t.w, t.h, a.n, a.m, pixels, links, table, outputs)
 }
 
-// Replays the case at a place, by `run` and by `run_and_paint`. What is recorded of it ends with the picture. One that is too large or not
-// whole ends past s.
+// Replays the case at a place, by `run` and by `run_and_paint`. What is recorded of it ends with the picture. One that
+// is too large or not whole ends past s.
 fn replay_case(s: &[u8], at: usize) -> Compared {
     let settings = settings_at(s, at);
     let o = settings.o;
@@ -231,7 +231,8 @@ fn step(window: &mut [u8], r: Progress) -> Progress {
     }
 }
 
-// What came of a replay: the cases that are recorded, those that were not run, those that differ, and the bytes after the last.
+// What came of a replay: the cases that are recorded, those that were not run, those that differ, and the bytes after
+// the last.
 pub struct Replayed {
     pub cases: u64,
     pub skipped: u64,

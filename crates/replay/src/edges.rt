@@ -1,4 +1,5 @@
-// Painting, rows and storing at the edges of their refusals, from buffers that no run made: the number, and that a refused call changes nothing.
+// Painting, rows and storing at the edges of their refusals, from buffers that no run made: the number, and that a
+// refused call changes nothing.
 use crate::buffers::are_filled;
 use crate::buffers::count;
 use crate::buffers::filled_bytes;
@@ -32,8 +33,8 @@ const ALPHA: usize = 35;
 
 const COLORS: usize = 36;
 
-// A call: the counts, the lengths that are lent (bytes: of the picture or the destination), two numbers that are changed, the number that it has
-// to answer and, where it paints, how many pixels.
+// A call: the counts, the lengths that are lent (bytes: of the picture or the destination), two numbers that are
+// changed, the number that it has to answer and, where it paints, how many pixels.
 struct Edge {
     w: u32,
     h: u32,
@@ -54,7 +55,8 @@ struct Edge {
     painted: usize,
 }
 
-// 3 × 2 pixels, all in the cluster of slot 1, which is put out twice; lent what they ask for and these bytes, with this number to answer.
+// 3 × 2 pixels, all in the cluster of slot 1, which is put out twice; lent what they ask for and these bytes, with this
+// number to answer.
 fn whole(bytes: usize, number: u32) -> Edge {
     Edge {
         w: 3,
@@ -138,7 +140,8 @@ fn paints(e: Edge, painted: usize) -> Edge {
 // How many calls `paint_at` has.
 const PAINTS: u64 = 37;
 
-// Painting: each number where it first appears, the last call before it that is accepted, chains that no run makes, and several faults at once.
+// Painting: each number where it first appears, the last call before it that is accepted, chains that no run makes, and
+// several faults at once.
 fn paint_at(k: u64) -> Edge {
     match k {
         0 => whole(24, 0),
@@ -222,8 +225,8 @@ fn store_at(k: u64) -> Edge {
     }
 }
 
-// What stands at a place of a buffer before it is changed: the pixels are listed in their order, and slot 1 has all of them, with the
-// average (10, 255, 30, 255) for its residue.
+// What stands at a place of a buffer before it is changed: the pixels are listed in their order, and slot 1 has all of
+// them, with the average (10, 255, 30, 255) for its residue.
 fn number_at(buffer: u32, i: usize) -> u32 {
     if buffer == LINKS {
         return if i < 5 { i as u32 + 2 } else { 0 };
@@ -301,7 +304,8 @@ fn call(
     container::to_color_image(e.w, e.h, links, table, outputs, bytes, e.n, e.m)
 }
 
-// Whether a call went right by its number and the bytes that it left: as they were where it is refused, and else the sheet or its picture.
+// Whether a call went right by its number and the bytes that it left: as they were where it is refused, and else the
+// sheet or its picture.
 fn is_right(
     e: Edge,
     stores: bool,

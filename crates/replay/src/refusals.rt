@@ -71,7 +71,8 @@ fn empty(shift: i32, w: u32, h: u32, number: u32) -> Edge {
     e
 }
 
-// How many calls are made: each of `edge_at` without a picture, and with one that is a byte too short, right, and a byte too long.
+// How many calls are made: each of `edge_at` without a picture, and with one that is a byte too short, right, and a
+// byte too long.
 pub(crate) const CALLS: u64 = 124;
 
 // Each number where it first appears, the last call before it that is accepted, and several faults at once.
@@ -133,8 +134,8 @@ fn settings(shift: i32) -> RunnerConfig {
     }
 }
 
-// Whether an answer has the number that it has to and, where that is a refusal, no counts, and every buffer is as it was filled. The
-// picture is so too, unless it was painted.
+// Whether an answer has the number that it has to and, where that is a refusal, no counts, and every buffer is as it
+// was filled. The picture is so too, unless it was painted.
 pub(crate) fn is_right(
     t: Trial,
     a: Answer,
@@ -159,8 +160,8 @@ pub(crate) fn is_right(
         & are_filled(picture, 0)
 }
 
-// The call of an edge, without a picture where kind is 0, and else with one of 22 + kind bytes: of another length than 3 × 2 ask for, it has
-// to answer 6 where nothing comes before that.
+// The call of an edge, without a picture where kind is 0, and else with one of 22 + kind bytes: of another length than
+// 3 × 2 ask for, it has to answer 6 where nothing comes before that.
 fn trial(e: Edge, kind: usize) -> Trial {
     let o = settings(e.shift);
     let short = (e.number == 0) & (kind % 2 == 1);

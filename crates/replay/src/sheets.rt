@@ -20,7 +20,8 @@ fn are_same(a: &[u8], b: &[u8]) -> bool {
     true
 }
 
-// Whether every row of the picture is the recorded one, of which the first is at `at`, and the row after the last is refused.
+// Whether every row of the picture is the recorded one, of which the first is at `at`, and the row after the last is
+// refused.
 fn are_rows(s: &[u8], at: usize, w: u32, h: u32, picture: &[u8]) -> bool {
     let mut same = sheet::row_check(w, h, picture, h) == 11;
     let mut from = at;
@@ -57,7 +58,8 @@ fn is_stored(sheet: &[u8], at: usize, buffer: &[u32], i: usize) -> bool {
     two_bytes(sheet[2 * at], sheet[2 * at + 1]) == buffer[i]
 }
 
-// Whether `count` numbers of a buffer are stored: each `stride` one from `from` on, as each `step` one of the sheet from `at` on.
+// Whether `count` numbers of a buffer are stored: each `stride` one from `from` on, as each `step` one of the sheet
+// from `at` on.
 fn are_stored(
     sheet: &[u8],
     at: usize,
@@ -80,8 +82,8 @@ fn are_stored(
     same
 }
 
-// Whether a sheet with these counts is stored, with labels as long as they say: the counts; label and link of each pixel; first
-// pixel and count of each slot; the outputs.
+// Whether a sheet with these counts is stored, with labels as long as they say: the counts; label and link of each
+// pixel; first pixel and count of each slot; the outputs.
 pub(crate) fn is_sheet(
     sheet: &[u8],
     w: u32,

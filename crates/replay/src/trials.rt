@@ -17,8 +17,9 @@ pub(crate) const LARGEST: usize = 2400;
 
 pub(crate) const PICTURE: usize = 9600;
 
-// A call: its settings and size, the bytes of its image by where they begin and end, whether it paints, the lengths that it is lent, and what it
-// has to leave: what is recorded after the image, or else this number and, where that refuses it, nothing new.
+// A call: its settings and size, the bytes of its image by where they begin and end, whether it paints, the lengths
+// that it is lent, and what it has to leave: what is recorded after the image, or else this number and, where that
+// refuses it, nothing new.
 pub struct Trial {
     pub o: RunnerConfig,
     pub w: u32,
@@ -67,7 +68,8 @@ fn call(
     runner::run(o, w, h, image, labels, links, table, outputs, work)
 }
 
-// Compares what a call answered and left with what it has to. From what a recorded run left, paints and stores too, and compares that.
+// Compares what a call answered and left with what it has to. From what a recorded run left, paints and stores too, and
+// compares that.
 fn judge(
     s: &[u8],
     t: Trial,

@@ -10,9 +10,10 @@ use lib.Dec.{T}
 use lib.ListN.{length, getD, set, length-set}
 use lib.Seq.{getD-set-same, getD-set-other}
 use Rattle.rules.specs.Color.{zeroSum, _⊕_}
-use Rattle.rules.specs.State.{State, Cluster, newCluster, cluster, label, relabel, withCluster, emptied, withResidue, mergedTo, deeper, combine, merge, deepen, plain, deepened}
+use Rattle.rules.specs.State.{State, Cluster, newCluster, cluster, label, relabel, withCluster, emptied, withResidue, mergedTo, deeper, combineClusters, mergeClusterInto, deepenClusterInto, plain, deepened}
 use Rattle.rules.specs.Ledger.{Held, enter}
 use Rattle.rules.specs.Claim.{bit, occurs, tally}
+use Rattle.rules.specs.Code.Early.{Basic}
 use Rattle.rules.proofs.Facts.{is-false, T-dec, T-or, T-or-l, T-or-r, eqb-yes, eqb-no, bit-or, bit-T, T-bit, occurs-append, relabel-other, relabel-in, length-relabel, tally-or, tally-none}
 
 -- ---- the ledger after a merge
@@ -93,16 +94,16 @@ module _ (cs : List Cluster) (f t : ℕ) (x y : Cluster) (n : f ≢ t) (hf : f <
   two-length = length-set (set cs t x) f y ∙ length-set cs t x
 
 module _ (f t : ℕ) (s : State) (n : f ≢ t) (hf : f < length (s .clusters)) (ht : t < length (s .clusters)) where
-  pub merge-f : cluster (merge f t s) f ≡ emptied (cluster s f)
-  unfolding merge
+  pub merge-f : cluster (mergeClusterInto f t s) f ≡ emptied (cluster s f)
+  unfolding mergeClusterInto
   merge-f = two-f (s .clusters) f t _ _ n hf ht
 
-  pub merge-t : cluster (merge f t s) t ≡ withResidue (cluster s t .residue ⊕ cluster s f .residue) (withCluster (cluster s f) (cluster s t))
-  unfolding merge
+  pub merge-t : cluster (mergeClusterInto f t s) t ≡ withResidue (cluster s t .residue ⊕ cluster s f .residue) (withCluster (cluster s f) (cluster s t))
+  unfolding mergeClusterInto
   merge-t = two-t (s .clusters) f t _ _ n hf ht
 
-  pub merge-moved : Moved f t s (merge f t s)
-  unfolding merge withResidue withCluster
+  pub merge-moved : Moved f t s (mergeClusterInto f t s)
+  unfolding mergeClusterInto withResidue withCluster
   merge-moved = record {
     other = two-o (s .clusters) f t _ _ n hf ht;
     t-pixels = ap (λ c. c .pixels) merge-t;
@@ -112,16 +113,16 @@ module _ (f t : ℕ) (s : State) (n : f ≢ t) (hf : f < length (s .clusters)) (
     table = two-length (s .clusters) f t _ _ n hf ht;
   }
 
-  pub combine-f : cluster (combine f t s) f ≡ emptied (cluster s f)
-  unfolding combine
+  pub combine-f : cluster (combineClusters f t s) f ≡ emptied (cluster s f)
+  unfolding combineClusters
   combine-f = two-f (s .clusters) f t _ _ n hf ht
 
-  pub combine-t : cluster (combine f t s) t ≡ withCluster (cluster s f) (cluster s t)
-  unfolding combine
+  pub combine-t : cluster (combineClusters f t s) t ≡ withCluster (cluster s f) (cluster s t)
+  unfolding combineClusters
   combine-t = two-t (s .clusters) f t _ _ n hf ht
 
-  pub combine-moved : Moved f t s (combine f t s)
-  unfolding combine withCluster
+  pub combine-moved : Moved f t s (combineClusters f t s)
+  unfolding combineClusters withCluster
   combine-moved = record {
     other = two-o (s .clusters) f t _ _ n hf ht;
     t-pixels = ap (λ c. c .pixels) combine-t;
@@ -132,16 +133,16 @@ module _ (f t : ℕ) (s : State) (n : f ≢ t) (hf : f < length (s .clusters)) (
   }
 
   module _ (hollow : Bool) where
-    pub deepen-f : cluster (deepen hollow f t s) f ≡ mergedTo t (cluster s f)
-    unfolding deepen
+    pub deepen-f : cluster (deepenClusterInto hollow f t s) f ≡ mergedTo t (cluster s f)
+    unfolding deepenClusterInto
     deepen-f = two-f (s .clusters) f t _ _ n hf ht
 
-    pub deepen-t : cluster (deepen hollow f t s) t ≡ deeper hollow f (withCluster (cluster s f) (cluster s t))
-    unfolding deepen
+    pub deepen-t : cluster (deepenClusterInto hollow f t s) t ≡ deeper hollow f (withCluster (cluster s f) (cluster s t))
+    unfolding deepenClusterInto
     deepen-t = two-t (s .clusters) f t _ _ n hf ht
 
-    pub deepen-moved : Moved f t s (deepen hollow f t s)
-    unfolding deepen deeper withCluster
+    pub deepen-moved : Moved f t s (deepenClusterInto hollow f t s)
+    unfolding deepenClusterInto deeper withCluster
     deepen-moved = record {
       other = two-o (s .clusters) f t _ _ n hf ht;
       t-pixels = ap (λ c. c .pixels) deepen-t;
@@ -152,14 +153,6 @@ module _ (f t : ℕ) (s : State) (n : f ≢ t) (hf : f < length (s .clusters)) (
     }
 
 -- ---- lists, sums and labels
-
-pub record Basic (image : List ℕ) (size : ℕ) (h : Held) (s : State) : Type 0 where
-  pub lists : (k p : ℕ) → occurs p (cluster s k .pixels) ≡ bit (h k p)
-  pub sums : (k : ℕ) → cluster s k .sum ≡ tally image (h k) size
-  pub shown : (p : ℕ) → label s p ≢ 0 → T (h (label s p) p)
-  pub places : (k p : ℕ) → T (h k p) → p < length (s .labels)
-  pub slots : (k p : ℕ) → T (h k p) → k < length (s .clusters)
-  pub width : length (s .labels) ≡ size
 
 -- one of three: f, t, or another
 pub three : (f t : ℕ) (P : ℕ → Type 0) → P f → P t → ((k : ℕ) → k ≢ f → k ≢ t → P k) → (k : ℕ) → P k

@@ -12,11 +12,12 @@ use lib.Dec.{T, eqb, ltb, leb, eqb→eq, eqb-refl, ltb→lt, lt→ltb, leb→le,
 use lib.ListN.{length, getD, length-append, length-map}
 use Rattle.rules.specs.Base.{times}
 use Rattle.rules.specs.Color.{RunnerConfig}
-use Rattle.rules.specs.State.{State, cluster, label, area, emptied, mergedTo, withResidue, put, merge, deepen}
+use Rattle.rules.specs.State.{State, cluster, label, area, emptied, mergedTo, withResidue, putOut, mergeClusterInto, deepenClusterInto}
 use Rattle.rules.specs.Stage2.{prepareStage2, visit, pass, passes}
 use Rattle.rules.specs.Run.{stage1, stage2}
 use Rattle.rules.specs.Claim.{countOf}
-use Rattle.rules.proofs.Facts.{T-and, T-both, standing, countOf-le, countOf-lt, countOf-swap}
+use Rattle.rules.specs.Code.Early.{standing}
+use Rattle.rules.proofs.Facts.{T-and, T-both, countOf-le, countOf-lt, countOf-swap}
 use Rattle.rules.proofs.Basic.{Moved}
 use Rattle.rules.proofs.Visits.{Going, Near, visit-cases, isolated-cases, visit-going, pass-going, times-keep, root, target-root, target-stands, merge-changes, deepen-changes, merge-from, deepen-from}
 use Rattle.rules.proofs.Early.{prepareStage2-going, settled}
@@ -100,8 +101,8 @@ module _ {cap n : ℕ} where
         pick (inl l) = omega arith
         pick (inr l) = omega arith
 
-    put-bounded : Bounded cap n a (suc k) (put k s)
-    unfolding put waiting rooted
+    put-bounded : Bounded cap n a (suc k) (putOut k s)
+    unfolding putOut waiting rooted
     put-bounded = record {
       total = omega (arith, B .total, countOf-lt (waiting a (suc k) s) (waiting a k s) (later-waits a k s) n k fits here not-then, length-append (s .outputs) (k ∷ []));
       table = B .table;
@@ -138,33 +139,33 @@ module _ {cap n : ℕ} where
 
     -- a merge leaves fewer roots, and no more to wait
     pub merge-fewer : (t : ℕ) → Near s (label s (getD (cluster s k .pixels) 0 0)) t
-        → (countOf (rooted (merge k t s)) n < countOf (rooted s) n) × (countOf (waiting a (suc k) (merge k t s)) n ≤ countOf (waiting a k s) n)
+        → (countOf (rooted (mergeClusterInto k t s)) n < countOf (rooted s) n) × (countOf (waiting a (suc k) (mergeClusterInto k t s)) n ≤ countOf (waiting a k s) n)
     unfolding emptied
     merge-fewer t N = (fewer-roots t N M gone (M .table), fewer-waits t N M gone (M .table))
       where
-        M : Moved k t s (merge k t s)
+        M : Moved k t s (mergeClusterInto k t s)
         M = merge-changes a k s G pos e t N
 
-        gone : Root (merge k t s) k → ⊥
+        gone : Root (mergeClusterInto k t s) k → ⊥
         gone r = omega (arith, r .0, ap area (merge-from a k s G pos e t N))
 
     pub deepen-fewer : (t : ℕ) → Near s (label s (getD (cluster s k .pixels) 0 0)) t → (b : Bool)
-        → (countOf (rooted (deepen b k t s)) n < countOf (rooted s) n) × (countOf (waiting a (suc k) (deepen b k t s)) n ≤ countOf (waiting a k s) n)
+        → (countOf (rooted (deepenClusterInto b k t s)) n < countOf (rooted s) n) × (countOf (waiting a (suc k) (deepenClusterInto b k t s)) n ≤ countOf (waiting a k s) n)
     unfolding mergedTo
     deepen-fewer t N b = (fewer-roots t N M gone (M .table), fewer-waits t N M gone (M .table))
       where
-        M : Moved k t s (deepen b k t s)
+        M : Moved k t s (deepenClusterInto b k t s)
         M = deepen-changes a k s G pos e t N b
 
-        gone : Root (deepen b k t s) k → ⊥
+        gone : Root (deepenClusterInto b k t s) k → ⊥
         gone r = N .0 (sym (ap (λ c. c .mergedInto) (deepen-from a k s G pos e t N b)) ∙ r .1)
 
-    merge-bounded : (t : ℕ) → Near s (label s (getD (cluster s k .pixels) 0 0)) t → Bounded cap n a (suc k) (merge k t s)
-    unfolding merge
+    merge-bounded : (t : ℕ) → Near s (label s (getD (cluster s k .pixels) 0 0)) t → Bounded cap n a (suc k) (mergeClusterInto k t s)
+    unfolding mergeClusterInto
     merge-bounded t N = let l = merge-fewer t N in record { total = omega (arith, B .total, l .0, l .1); table = merge-changes a k s G pos e t N .table ∙ B .table }
 
-    deepen-bounded : (t : ℕ) → Near s (label s (getD (cluster s k .pixels) 0 0)) t → (hollow : Bool) → Bounded cap n a (suc k) (deepen hollow k t s)
-    unfolding deepen
+    deepen-bounded : (t : ℕ) → Near s (label s (getD (cluster s k .pixels) 0 0)) t → (hollow : Bool) → Bounded cap n a (suc k) (deepenClusterInto hollow k t s)
+    unfolding deepenClusterInto
     deepen-bounded t N hollow =
         let l = deepen-fewer t N hollow in
         record { total = omega (arith, B .total, l .0, l .1, length-append (s .outputs) (k ∷ [])); table = deepen-changes a k s G pos e t N hollow .table ∙ B .table }

@@ -20,7 +20,7 @@ use Rattle.rules.proofs.Bounds.{outputs-bound}
 use Rattle.rules.proofs.Ranges.{run-ranged}
 use Rattle.rules.proofs.Moments.{run-width}
 use Rattle.rules.proofs.Accepted.{run-accepted}
-use Rattle.rules.proofs.Layouts.{links-length, table-length, leaves-lies}
+use Rattle.rules.proofs.Layouts.{links-length, table-length, leaves-in-buffers}
 use Rattle.rules.proofs.Paint.{run-painting}
 
 -- what is written over the beginning of a list leaves its length
@@ -76,7 +76,7 @@ module _ (o : RunnerConfig) (w h : ℕ) (image : List ℕ) (bytes : (i : ℕ) �
       let z = paint-passes w h (length (leaves s b .links)) (length (leaves s b .table)) (length (leaves s b .outputs)) (length given) (length (s .clusters)) (length (s .outputs)) (A .size .wide) (A .size .high) (A .size .small)
       (omega (arith, leaves-links (A .links-fit), A .links-fit)) (omega (arith, leaves-table (A .table-fits), A .table-fits)) (omega (arith, leaves-outputs (A .outputs-fit), A .outputs-fit))
       (run-ranged image bytes o w h .slots) (run-outputs o w h image) g in
-      rw z (run-painting image bytes o w h (length (s .clusters)) (length (s .outputs)) (leaves s b .links) (leaves s b .table) (leaves s b .outputs) given (leaves-lies (w * h) s (run-width o w h image) b))
+      rw z (run-painting image bytes o w h (length (s .clusters)) (length (s .outputs)) (leaves s b .links) (leaves s b .table) (leaves s b .outputs) given (leaves-in-buffers (w * h) s (run-width o w h image) b))
 
   -- an accepted run and then painting, as calls answer and leave it: what both leave
   pub then-painted : runNumber o w h image b ≡ 0 → (given : List ℕ) → length given ≡ 4 * (w * h)

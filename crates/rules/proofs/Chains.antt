@@ -8,7 +8,7 @@ use native.Mathlib.Decide.{ℕ-discrete}
 use native.Mathlib.Omega.{arith}
 use lib.Dec.{T, eqb}
 use lib.ListN.{length, getD}
-use Rattle.rules.specs.State.{State, cluster, label, area, mergedTo, put, merge, deepen}
+use Rattle.rules.specs.State.{State, cluster, label, area, mergedTo, putOut, mergeClusterInto, deepenClusterInto}
 use Rattle.rules.specs.Layout.{after, firstOf, link, walk}
 use Rattle.rules.specs.Ledger.{Held, ledger}
 use Rattle.rules.specs.Claim.{bit, occurs, Stands}
@@ -16,8 +16,7 @@ use Rattle.rules.proofs.Facts.{T-dec, eqb-yes, eqb-no, occurs-append}
 use Rattle.rules.proofs.Basic.{Moved, lab-from, lab-other, plain-down, deepened-down, some-held, once-held}
 use Rattle.rules.proofs.Sound.{Sound}
 use Rattle.rules.specs.Stage2.{prepareStage2}
-use Rattle.rules.proofs.Owned.{owned}
-use Rattle.rules.proofs.Early.{Early}
+use Rattle.rules.specs.Code.Early.{owned, Early}
 use Rattle.rules.proofs.Visits.{Going, Near, root, k≢t, target-root, merge-changes, deepen-changes, deepen-from}
 
 -- xs is a stretch of ys
@@ -119,25 +118,25 @@ module _ {image : List ℕ} {size : ℕ} (s : State) (S : Sound image size (ledg
 
 -- ---- over the whole run
 
-pub put-chained : (k : ℕ) (s : State) → Chained s → Chained (put k s)
-unfolding put
+pub put-chained : (k : ℕ) (s : State) → Chained s → Chained (putOut k s)
+unfolding putOut
 put-chained k s C = record { within = C .within }
 
 module _ {image : List ℕ} {size : ℕ} where
   module _ (a k : ℕ) (s : State) (G : Going image size a k s) (C : Chained s) (pos : 0 < a) (e : area (cluster s k) ≡ a) (t : ℕ) (N : Near s (label s (getD (cluster s k .pixels) 0 0)) t) where
-    pub merge-chained : Chained (merge k t s)
-    unfolding merge
+    pub merge-chained : Chained (mergeClusterInto k t s)
+    unfolding mergeClusterInto
     merge-chained =
         let M = merge-changes a k s G pos e t N in
         let down = plain-down (ledger (s .log)) k t (k≢t a k s G pos e t N) in
         moved-chained s (G .sound) C k t (root a k s G pos e) (target-root a k s G pos e t N) M (λ j q x. down j q x .1) (λ j q x z. ap (λ c. c .pixels) (M .other j (down j q x .0) z))
 
-    pub deepen-chained : (hollow : Bool) → Chained (deepen hollow k t s)
-    unfolding deepen mergedTo
+    pub deepen-chained : (hollow : Bool) → Chained (deepenClusterInto hollow k t s)
+    unfolding deepenClusterInto mergedTo
     deepen-chained hollow =
         let M = deepen-changes a k s G pos e t N hollow in
         moved-chained s (G .sound) C k t (root a k s G pos e) (target-root a k s G pos e t N) M (deepened-down (ledger (s .log)) k t) (λ j q x z. by-cases (ℕ-discrete j k)
-        (λ y. subst (λ m. cluster (deepen hollow k t s) m .pixels ≡ cluster s m .pixels) (sym y) (ap (λ c. c .pixels) (deepen-from a k s G pos e t N hollow)))
+        (λ y. subst (λ m. cluster (deepenClusterInto hollow k t s) m .pixels ≡ cluster s m .pixels) (sym y) (ap (λ c. c .pixels) (deepen-from a k s G pos e t N hollow)))
         (λ y. ap (λ c. c .pixels) (M .other j y z)))
 
 pub prepareStage2-chained : {image : List ℕ} {size : ℕ} {Gone : ℕ → Type 0} {Keyed : Type 0} (i : ℕ) (s : State) → Early image size Gone Keyed i s → Chained (prepareStage2 s)

@@ -11,7 +11,7 @@ use native.Mathlib.Omega.{arith}
 use borrow.Author.Tests.{eqb-true}
 use lib.Dec.{eqb, ltb, leb, le→leb, lt→ltb}
 use lib.ListN.{getD}
-use Rattle.rules.specs.Base.{if_then_else_, insert}
+use Rattle.rules.specs.Base.{if_then_else_, insertOnce}
 use Rattle.rules.specs.Color.{RunnerConfig}
 use Rattle.rules.specs.Grid.{up, down, left, right, sides}
 use Rattle.rules.specs.State.{State, cluster, label}
@@ -75,11 +75,11 @@ abbrev pub AllSome : (ℕ → Type 0) → List (Option ℕ) → Type 0
 AllSome P [] = Unit {0}
 AllSome P (x ∷ xs) = Some P x × AllSome P xs
 
-insert-some : (a : ℕ) (xs : List ℕ) → insert a xs ≡ [] → ⊥
+insert-some : (a : ℕ) (xs : List ℕ) → insertOnce a xs ≡ [] → ⊥
 insert-some a [] e = cons≢nil e
 insert-some a (x ∷ xs) e = pick (ltb a x) (eqb a x) e
   where
-    pick : (b c : Bool) → (if b then a ∷ x ∷ xs else (if c then x ∷ xs else x ∷ insert a xs)) ≡ [] → ⊥
+    pick : (b c : Bool) → (if b then a ∷ x ∷ xs else (if c then x ∷ xs else x ∷ insertOnce a xs)) ≡ [] → ⊥
     pick true c y = cons≢nil y
     pick false true y = cons≢nil y
     pick false false y = cons≢nil y
@@ -93,11 +93,11 @@ module _ (o : RunnerConfig) (w h : ℕ) (s : State) (own : ℕ) where
   labelsAt-none [] found e = (e, tt)
   labelsAt-none (off ∷ is) found e = let r = labelsAt-none is found e in (r .0, (tt, r .1))
   labelsAt-none (some i ∷ is) found e =
-      let r = labelsAt-none is (if eqb (label s i) 0 || eqb (label s i) own then found else insert (label s i) found) e in
+      let r = labelsAt-none is (if eqb (label s i) 0 || eqb (label s i) own then found else insertOnce (label s i) found) e in
       let t = pick (eqb (label s i) 0) refl (eqb (label s i) own) refl (r .0) in
       (t .0, (t .1, r .1))
     where
-      pick : (b : Bool) → eqb (label s i) 0 ≡ b → (c : Bool) → eqb (label s i) own ≡ c → (if b || c then found else insert (label s i) found) ≡ [] → (found ≡ []) × Own i
+      pick : (b : Bool) → eqb (label s i) 0 ≡ b → (c : Bool) → eqb (label s i) own ≡ c → (if b || c then found else insertOnce (label s i) found) ≡ [] → (found ≡ []) × Own i
       pick true x c y z = (z, inl (eqb-true (label s i) 0 x))
       pick false x true y z = (z, inr (eqb-true (label s i) own y))
       pick false x false y z = absurd (insert-some (label s i) found z)

@@ -13,40 +13,20 @@ use lib.Dec.{T, not-T, eqb, ltb, leb, ltb→lt, lt→ltb, nltb→le}
 use lib.ListN.{length, getD, set, replicate, length-set, length-append, length-replicate, List·getD-append, List·getD-eq-default, List·getD-map, length-map}
 use lib.Seq.{getD-set-same, getD-set-other, getD-append-seam}
 use Rattle.rules.specs.Base.{if_then_else_, times}
-use Rattle.rules.specs.Color.{Color, RunnerConfig, one, _⊕_, pixel, isDiscard}
+use Rattle.rules.specs.Color.{Color, RunnerConfig, sumOfOne, _⊕_, pixel, isDiscard}
 use Rattle.rules.specs.Grid.{up, left, upLeft}
-use Rattle.rules.specs.State.{State, Cluster, BoundingRect, newCluster, cluster, label, area, pixelRect, withPixel, withCluster, emptied, withResidue, fresh, add, beginCluster, combine, added, plain}
+use Rattle.rules.specs.State.{State, Cluster, BoundingRect, newCluster, cluster, label, area, pixelRect, withPixel, withCluster, emptied, withResidue, fresh, addPixel, beginCluster, combineClusters, added, plain}
 use Rattle.rules.specs.Stage1.{sameAt, labelAt, leftMeetsUp, lowerNext, isKey, place, combineThenPlace, takePixel, taken}
 use Rattle.rules.specs.Stage2.{prepareStage2}
 use Rattle.rules.specs.Ledger.{Held, enter, ledger}
 use Rattle.rules.specs.Claim.{bit, occurs, tally, countOf}
-use Rattle.rules.proofs.Owned.{owned}
-use Rattle.rules.proofs.Facts.{standing, countOf-le, countOf-more, countOf-swap, countOf-none}
+use Rattle.rules.specs.Code.Early.{Basic, owned, standing, Early}
+use Rattle.rules.proofs.Facts.{countOf-le, countOf-more, countOf-swap, countOf-none}
 use Rattle.rules.proofs.Facts.{is-true, is-false, T-dec, T-or-r, eqb-yes, eqb-no, bit-or, occurs-append, ⊕-comm, tally-or, tally-none, tally-one, both-true}
 use Rattle.rules.proofs.Forest.{flat}
-use Rattle.rules.proofs.Basic.{Basic, Moved, three, plain-down, plain-to, plain-up, lab-from, lab-other, plain-basic, combine-f, combine-t, combine-moved}
+use Rattle.rules.proofs.Basic.{Moved, three, plain-down, plain-to, plain-up, lab-from, lab-other, plain-basic, combine-f, combine-t, combine-moved}
 use Rattle.rules.proofs.Sound.{Sound}
 use Rattle.rules.proofs.Visits.{Going}
-
--- Gone p: p is a discarded pixel. Keyed: keying is on.
-pub record Early (image : List ℕ) (size : ℕ) (Gone : ℕ → Type 0) (Keyed : Type 0) (i : ℕ) (s : State) : Type 0 where
-  pub basic : Basic image size (ledger (s .log)) s
-  pub flats : (k p : ℕ) → T (ledger (s .log) k p) → label s p ≡ k
-  pub before : (k p : ℕ) → T (ledger (s .log) k p) → p < i
-  pub covered : (p : ℕ) → p < i → Gone p ⊎ ((k : ℕ) × T (ledger (s .log) k p))
-  pub never : (k p : ℕ) → T (ledger (s .log) k p) → Gone p → ⊥
-  -- a pixel that was taken has label 0 only with keying on
-  pub lit : (p : ℕ) → p < i → label s p ≡ 0 → Keyed
-  pub free : (k p : ℕ) → s .next ≤ k → T (ledger (s .log) k p) → ⊥
-  pub room : s .next ≤ length (s .clusters)
-  pub some : 1 ≤ s .next
-  pub roots : (k : ℕ) → cluster s k .mergedInto ≡ 0
-  pub no-holes : (k : ℕ) → cluster s k .holes ≡ []
-  pub same : owned (s .log) ≡ ledger (s .log)
-  pub quiet : s .outputs ≡ []
-  -- at most one slot a pixel beside slot 0, and at most one standing cluster a pixel
-  pub short : length (s .clusters) ≤ suc i
-  pub few : (N : ℕ) → length (s .clusters) ≤ N → countOf (standing s) N ≤ i
 
 -- ---- the ledger after a pixel is added
 
@@ -73,15 +53,15 @@ module _ (g : Held) (i k : ℕ) where
 
 pub record Adds (image : List ℕ) (size : ℕ) (i k : ℕ) (s s′ : State) : Type 0 where
   pub k-pixels : (p : ℕ) → occurs p (cluster s′ k .pixels) ≡ bit (ledger (s .log) k p) + bit (eqb p i)
-  pub k-sum : cluster s′ k .sum ≡ tally image (ledger (s .log) k) size ⊕ one (pixel image i)
+  pub k-sum : cluster s′ k .sum ≡ tally image (ledger (s .log) k) size ⊕ sumOfOne (pixel image i)
   pub k-root : cluster s′ k .mergedInto ≡ 0
   pub k-holes : cluster s′ k .holes ≡ []
   pub other : (j : ℕ) → j ≢ k → cluster s′ j ≡ cluster s j
   pub labels : s′ .labels ≡ set (s .labels) i k
   pub grows : length (s .clusters) ≤ length (s′ .clusters)
-  pub k-next : k < s′ .next
-  pub next-up : s .next ≤ s′ .next
-  pub next-room : s′ .next ≤ length (s′ .clusters)
+  pub k-next : k < s′ .nextIndex
+  pub next-up : s .nextIndex ≤ s′ .nextIndex
+  pub next-room : s′ .nextIndex ≤ length (s′ .clusters)
   pub logs : s′ .log ≡ added i k ∷ s .log
   pub outs : s′ .outputs ≡ s .outputs
   pub one-slot : length (s′ .clusters) ≤ suc (length (s .clusters))
@@ -187,7 +167,7 @@ module _ {image : List ℕ} {size : ℕ} {Gone : ℕ → Type 0} {Keyed : Type 0
           (λ p. A .k-pixels p ∙ omega (arith, bit-or (eqb p i) (ledger (s .log) k p) (disjoint p)) ∙ sym (ap (λ g. bit (g p)) (added-k (ledger (s .log)) i k)))
           (λ j n p. ap (λ c. occurs p (c .pixels)) (A .other j n) ∙ E .basic .lists j p ∙ sym (ap (λ g. bit (g p)) (added-o (ledger (s .log)) i k j n)));
       sums = two k (λ j. cluster s′ j .sum ≡ tally image (enter (added i k) (ledger (s .log)) j) size)
-          (A .k-sum ∙ ⊕-comm (tally image (ledger (s .log) k) size) (one (pixel image i)) ∙ ap (λ x. x ⊕ tally image (ledger (s .log) k) size) (sym (tally-one image i size fits))
+          (A .k-sum ∙ ⊕-comm (tally image (ledger (s .log) k) size) (sumOfOne (pixel image i)) ∙ ap (λ x. x ⊕ tally image (ledger (s .log) k) size) (sym (tally-one image i size fits))
           ∙ sym (tally-or image (λ q. eqb q i) (ledger (s .log) k) disjoint size) ∙ sym (ap (λ g. tally image g size) (added-k (ledger (s .log)) i k)))
           (λ j n. ap (λ c. c .sum) (A .other j n) ∙ E .basic .sums j ∙ sym (ap (λ g. tally image g size) (added-o (ledger (s .log)) i k j n)));
       shown = λ p x. by-cases (ℕ-discrete p i)
@@ -233,11 +213,11 @@ module _ {image : List ℕ} {size : ℕ} {Gone : ℕ → Type 0} {Keyed : Type 0
 
   -- ---- the two ways to add a pixel
 
-  pub add-adds : (i k : ℕ) (at : BoundingRect) (s : State) → Early image size Gone Keyed i s → k < s .next → Adds image size i k s (add i (pixel image i) at k s)
-  unfolding add withPixel
+  pub add-adds : (i k : ℕ) (at : BoundingRect) (s : State) → Early image size Gone Keyed i s → k < s .nextIndex → Adds image size i k s (addPixel i (pixel image i) at k s)
+  unfolding addPixel withPixel
   add-adds i k at s E fits = record {
     k-pixels = λ p. ap (λ c. occurs p (c .pixels)) here ∙ occurs-append p (cluster s k .pixels) (i ∷ []) ∙ omega (arith, E .basic .lists k p);
-    k-sum = ap (λ c. c .sum) here ∙ ap (λ x. x ⊕ one (pixel image i)) (E .basic .sums k);
+    k-sum = ap (λ c. c .sum) here ∙ ap (λ x. x ⊕ sumOfOne (pixel image i)) (E .basic .sums k);
     k-root = ap (λ c. c .mergedInto) here ∙ E .roots k;
     k-holes = ap (λ c. c .holes) here ∙ E .no-holes k;
     other = λ j n. getD-set-other (s .clusters) k j _ newCluster n;
@@ -251,14 +231,14 @@ module _ {image : List ℕ} {size : ℕ} {Gone : ℕ → Type 0} {Keyed : Type 0
     one-slot = omega (arith, length-set (s .clusters) k (withPixel i (pixel image i) at (cluster s k)));
   }
     where
-      here : cluster (add i (pixel image i) at k s) k ≡ withPixel i (pixel image i) at (cluster s k)
+      here : cluster (addPixel i (pixel image i) at k s) k ≡ withPixel i (pixel image i) at (cluster s k)
       here = getD-set-same (s .clusters) k _ newCluster (omega (arith, E .room))
 
-  pub beginCluster-adds : (i : ℕ) (at : BoundingRect) (s : State) → Early image size Gone Keyed i s → Adds image size i (s .next) s (beginCluster i (pixel image i) at s)
+  pub beginCluster-adds : (i : ℕ) (at : BoundingRect) (s : State) → Early image size Gone Keyed i s → Adds image size i (s .nextIndex) s (beginCluster i (pixel image i) at s)
   unfolding beginCluster withPixel
   beginCluster-adds i at s E = record {
     k-pixels = λ p. ap (λ c. occurs p (c .pixels)) (P .here) ∙ omega (arith, ap bit (none-held p));
-    k-sum = ap (λ c. c .sum) (P .here) ∙ ap (λ x. x ⊕ one (pixel image i)) (sym (tally-none image size) ∙ ap (λ g. tally image g size) (sym (fun-ext none-held)));
+    k-sum = ap (λ c. c .sum) (P .here) ∙ ap (λ x. x ⊕ sumOfOne (pixel image i)) (sym (tally-none image size) ∙ ap (λ g. tally image g size) (sym (fun-ext none-held)));
     k-root = ap (λ c. c .mergedInto) (P .here);
     k-holes = ap (λ c. c .holes) (P .here);
     other = P .other;
@@ -272,24 +252,24 @@ module _ {image : List ℕ} {size : ℕ} {Gone : ℕ → Type 0} {Keyed : Type 0
     one-slot = P .short;
   }
     where
-      none-held : (p : ℕ) → ledger (s .log) (s .next) p ≡ false
-      none-held p = is-false (ledger (s .log) (s .next) p) (E .free (s .next) p (omega arith))
+      none-held : (p : ℕ) → ledger (s .log) (s .nextIndex) p ≡ false
+      none-held p = is-false (ledger (s .log) (s .nextIndex) p) (E .free (s .nextIndex) p (omega arith))
 
-      P : Placed (s .clusters) (beginCluster i (pixel image i) at s .clusters) (s .next) (withPixel i (pixel image i) at newCluster)
-      P = placed (s .clusters) (s .next) (withPixel i (pixel image i) at newCluster) (E .room) (ltb (s .next) (length (s .clusters))) refl
+      P : Placed (s .clusters) (beginCluster i (pixel image i) at s .clusters) (s .nextIndex) (withPixel i (pixel image i) at newCluster)
+      P = placed (s .clusters) (s .nextIndex) (withPixel i (pixel image i) at newCluster) (E .room) (ltb (s .nextIndex) (length (s .clusters))) refl
 
   -- ---- step 1
 
-  pub label-next : (i p : ℕ) (s : State) → Early image size Gone Keyed i s → label s p < s .next
+  pub label-next : (i p : ℕ) (s : State) → Early image size Gone Keyed i s → label s p < s .nextIndex
   label-next i p s E = pick (ℕ-discrete (label s p) 0)
     where
-      pick : Dec (label s p ≡ 0) → label s p < s .next
+      pick : Dec (label s p ≡ 0) → label s p < s .nextIndex
       pick (yes e) = omega (arith, E .some)
-      pick (no d) = by-cases (T-dec (ltb (label s p) (s .next)))
-          (λ z. ltb→lt (label s p) (s .next) z)
-          (λ z. absurd (E .free (label s p) p (nltb→le (label s p) (s .next) (not-T (ltb (label s p) (s .next)) z)) (E .basic .shown p d)))
+      pick (no d) = by-cases (T-dec (ltb (label s p) (s .nextIndex)))
+          (λ z. ltb→lt (label s p) (s .nextIndex) z)
+          (λ z. absurd (E .free (label s p) p (nltb→le (label s p) (s .nextIndex) (not-T (ltb (label s p) (s .nextIndex)) z)) (E .basic .shown p d)))
 
-  pub labelAt-next : {i : ℕ} {s : State} → Early image size Gone Keyed i s → (q : Option ℕ) → labelAt s q < s .next
+  pub labelAt-next : {i : ℕ} {s : State} → Early image size Gone Keyed i s → (q : Option ℕ) → labelAt s q < s .nextIndex
   unfolding labelAt
   labelAt-next {i} {s} E (some p) = label-next i p s E
   labelAt-next E off = E .some
@@ -304,22 +284,22 @@ module _ {image : List ℕ} {size : ℕ} {Gone : ℕ → Type 0} {Keyed : Type 0
   pub flats-apart : {i : ℕ} {s : State} → Early image size Gone Keyed i s → (f t : ℕ) → f ≢ t → (p : ℕ) → T (ledger (s .log) t p) → T (ledger (s .log) f p) → ⊥
   flats-apart E f t n p a b = n (sym (E .flats f p b) ∙ E .flats t p a)
 
-  module _ (i f t : ℕ) (s : State) (E : Early image size Gone Keyed i s) (n : f ≢ t) (hf : f < s .next) (ht : t < s .next) (t-keyed : t ≡ 0 → Keyed) where
+  module _ (i f t : ℕ) (s : State) (E : Early image size Gone Keyed i s) (n : f ≢ t) (hf : f < s .nextIndex) (ht : t < s .nextIndex) (t-keyed : t ≡ 0 → Keyed) where
     f-slot : f < length (s .clusters)
     f-slot = omega (arith, E .room)
 
     t-slot : t < length (s .clusters)
     t-slot = omega (arith, E .room)
 
-    J : Moved f t s (combine f t s)
+    J : Moved f t s (combineClusters f t s)
     J = combine-moved f t s n f-slot t-slot
 
-    pub combine-empty : (p : ℕ) → T (ledger (combine f t s .log) f p) → ⊥
-    unfolding combine
+    pub combine-empty : (p : ℕ) → T (ledger (combineClusters f t s .log) f p) → ⊥
+    unfolding combineClusters
     combine-empty p x = plain-down (ledger (s .log)) f t n f p x .0 refl
 
-    pub combine-early : Early image size Gone Keyed i (combine f t s)
-    unfolding combine emptied withCluster J
+    pub combine-early : Early image size Gone Keyed i (combineClusters f t s)
+    unfolding combineClusters emptied withCluster J
     combine-early = record {
       basic = plain-basic (E .basic) f t n (flats-apart E f t n) t-slot J (ap (λ c. c .pixels) (combine-f f t s n f-slot t-slot)) (ap (λ c. c .sum) (combine-f f t s n f-slot t-slot));
       flats = λ k p x. flat′ k p (plain-down g f t n k p x .0) (plain-down g f t n k p x .1);
@@ -330,9 +310,9 @@ module _ {image : List ℕ} {size : ℕ} {Gone : ℕ → Type 0} {Keyed : Type 0
       free = λ k p z x. elim (plain-down g f t n k p x .1) [ inl y ↦ omega arith | inr y ↦ E .free k p z y ];
       room = omega (arith, E .room, J .table);
       some = E .some;
-      roots = three f t (λ k. cluster (combine f t s) k .mergedInto ≡ 0) (ap (λ c. c .mergedInto) (combine-f f t s n f-slot t-slot) ∙ E .roots f) (J .t-merged ∙ E .roots t)
+      roots = three f t (λ k. cluster (combineClusters f t s) k .mergedInto ≡ 0) (ap (λ c. c .mergedInto) (combine-f f t s n f-slot t-slot) ∙ E .roots f) (J .t-merged ∙ E .roots t)
           (λ k a b. ap (λ c. c .mergedInto) (J .other k a b) ∙ E .roots k);
-      no-holes = three f t (λ k. cluster (combine f t s) k .holes ≡ []) (ap (λ c. c .holes) (combine-f f t s n f-slot t-slot) ∙ E .no-holes f) (ap (λ c. c .holes) (combine-t f t s n f-slot t-slot) ∙ E .no-holes t)
+      no-holes = three f t (λ k. cluster (combineClusters f t s) k .holes ≡ []) (ap (λ c. c .holes) (combine-f f t s n f-slot t-slot) ∙ E .no-holes f) (ap (λ c. c .holes) (combine-t f t s n f-slot t-slot) ∙ E .no-holes t)
           (λ k a b. ap (λ c. c .holes) (J .other k a b) ∙ E .no-holes k);
       same = ap (enter (plain f t)) (E .same);
       quiet = E .quiet;
@@ -340,28 +320,28 @@ module _ {image : List ℕ} {size : ℕ} {Gone : ℕ → Type 0} {Keyed : Type 0
       few = λ N l. few′ N (omega (arith, J .table)) (T-dec (standing s f));
     }
       where
-        empty : cluster (combine f t s) f .pixels ≡ []
+        empty : cluster (combineClusters f t s) f .pixels ≡ []
         empty = ap (λ c. c .pixels) (combine-f f t s n f-slot t-slot)
 
-        gone : T (standing (combine f t s) f) → ⊥
-        gone x = let l : 0 < area (cluster (combine f t s) f) = ltb→lt 0 (area (cluster (combine f t s) f)) x in omega (arith, ap length empty)
+        gone : T (standing (combineClusters f t s) f) → ⊥
+        gone x = let l : 0 < area (cluster (combineClusters f t s) f) = ltb→lt 0 (area (cluster (combineClusters f t s) f)) x in omega (arith, ap length empty)
 
-        rest : (j : ℕ) → j ≢ t → T (standing (combine f t s) j) → T (standing s j)
+        rest : (j : ℕ) → j ≢ t → T (standing (combineClusters f t s) j) → T (standing s j)
         rest j d x = by-cases (ℕ-discrete j f)
-            (λ e. absurd (gone (subst (λ m. T (standing (combine f t s) m)) e x)))
+            (λ e. absurd (gone (subst (λ m. T (standing (combineClusters f t s) m)) e x)))
             (λ e. subst (λ c. T (ltb 0 (area c))) (J .other j e d) x)
 
-        few′ : (N : ℕ) → length (s .clusters) ≤ N → Dec (T (standing s f)) → countOf (standing (combine f t s)) N ≤ i
-        few′ N l (yes y) = omega (arith, E .few N l, countOf-swap (standing (combine f t s)) (standing s) f t rest gone y N (omega (arith, f-slot)))
-        few′ N l (no y) = omega (arith, E .few N l, countOf-le (standing (combine f t s)) (standing s) all N)
+        few′ : (N : ℕ) → length (s .clusters) ≤ N → Dec (T (standing s f)) → countOf (standing (combineClusters f t s)) N ≤ i
+        few′ N l (yes y) = omega (arith, E .few N l, countOf-swap (standing (combineClusters f t s)) (standing s) f t rest gone y N (omega (arith, f-slot)))
+        few′ N l (no y) = omega (arith, E .few N l, countOf-le (standing (combineClusters f t s)) (standing s) all N)
           where
-            all : (j : ℕ) → T (standing (combine f t s) j) → T (standing s j)
+            all : (j : ℕ) → T (standing (combineClusters f t s) j) → T (standing s j)
             all j x = pick (ℕ-discrete j t)
               where
                 pick : Dec (j ≡ t) → T (standing s j)
                 pick (no d) = rest j d x
                 pick (yes e) =
-                    let a : 0 < area (cluster (combine f t s) t) = ltb→lt 0 (area (cluster (combine f t s) t)) (subst (λ m. T (standing (combine f t s) m)) e x) in
+                    let a : 0 < area (cluster (combineClusters f t s) t) = ltb→lt 0 (area (cluster (combineClusters f t s) t)) (subst (λ m. T (standing (combineClusters f t s) m)) e x) in
                     let b : area (cluster s f) ≤ 0 = nltb→le 0 (area (cluster s f)) (not-T (standing s f) y) in
                     subst (λ m. T (standing s m)) (sym e) (lt→ltb 0 (area (cluster s t))
                     (omega (arith, ap length (J .t-pixels), length-append (cluster s t .pixels) (cluster s f .pixels))))
@@ -369,7 +349,7 @@ module _ {image : List ℕ} {size : ℕ} {Gone : ℕ → Type 0} {Keyed : Type 0
         g : Held
         g = ledger (s .log)
 
-        flat′ : (k p : ℕ) → k ≢ f → ((k ≡ t) × T (g f p)) ⊎ T (g k p) → label (combine f t s) p ≡ k
+        flat′ : (k p : ℕ) → k ≢ f → ((k ≡ t) × T (g f p)) ⊎ T (g k p) → label (combineClusters f t s) p ≡ k
         flat′ k p d (inl y) = lab-from (E .basic) f t J p (y .1) ∙ sym (y .0)
         flat′ k p d (inr y) = lab-other (E .basic) f t J p (λ z. d (sym (E .flats k p y) ∙ E .flats f p z)) ∙ E .flats k p y
 
@@ -380,15 +360,15 @@ module _ {image : List ℕ} {size : ℕ} {Gone : ℕ → Type 0} {Keyed : Type 0
             (λ d. (y .0, plain-up g f t n (y .0) p d (y .1))))
 
   -- next falls to l, which holds nothing
-  pub lower-early : (o : RunnerConfig) (w i l u : ℕ) (s : State) → Early image size Gone Keyed i s → l ≢ u → u < s .next → ((p : ℕ) → T (ledger (s .log) l p) → ⊥)
-      → Early image size Gone Keyed i (lowerNext l s) × (u < lowerNext l s .next)
+  pub lower-early : (o : RunnerConfig) (w i l u : ℕ) (s : State) → Early image size Gone Keyed i s → l ≢ u → u < s .nextIndex → ((p : ℕ) → T (ledger (s .log) l p) → ⊥)
+      → Early image size Gone Keyed i (lowerNext l s) × (u < lowerNext l s .nextIndex)
   unfolding lowerNext
-  lower-early o w i l u s E n hu empty = pick (eqb (l + 1) (s .next)) refl (eqb (s .next) (length (s .clusters)))
+  lower-early o w i l u s E n hu empty = pick (eqb (l + 1) (s .nextIndex)) refl (eqb (s .nextIndex) (length (s .clusters)))
     where
       with : (m : ℕ) → State
-      with m = record { labels = s .labels; clusters = s .clusters; next = m; outputs = s .outputs; listed = s .listed; log = s .log }
+      with m = record { labels = s .labels; clusters = s .clusters; nextIndex = m; outputs = s .outputs; listed = s .listed; log = s .log }
 
-      keep : (m : ℕ) → m ≤ s .next → 1 ≤ m → ((k p : ℕ) → m ≤ k → T (ledger (s .log) k p) → ⊥) → Early image size Gone Keyed i (with m)
+      keep : (m : ℕ) → m ≤ s .nextIndex → 1 ≤ m → ((k p : ℕ) → m ≤ k → T (ledger (s .log) k p) → ⊥) → Early image size Gone Keyed i (with m)
       keep m a b c = record {
         basic = record { lists = E .basic .lists; sums = E .basic .sums; shown = E .basic .shown; places = E .basic .places; slots = E .basic .slots; width = E .basic .width };
         flats = E .flats;
@@ -407,20 +387,20 @@ module _ {image : List ℕ} {size : ℕ} {Gone : ℕ → Type 0} {Keyed : Type 0
         few = E .few;
       }
 
-      pick : (b : Bool) → eqb (l + 1) (s .next) ≡ b → (c : Bool) → Early image size Gone Keyed i (with (if b && c then s .next - 1 else s .next)) × (u < (if b && c then s .next - 1 else s .next))
+      pick : (b : Bool) → eqb (l + 1) (s .nextIndex) ≡ b → (c : Bool) → Early image size Gone Keyed i (with (if b && c then s .nextIndex - 1 else s .nextIndex)) × (u < (if b && c then s .nextIndex - 1 else s .nextIndex))
       pick true e true =
-          let q : l + 1 ≡ s .next = eqb-true (l + 1) (s .next) e in (
-            keep (s .next - 1) (omega arith) (omega arith) (λ k p y x. by-cases (ℕ-discrete k l)
+          let q : l + 1 ≡ s .nextIndex = eqb-true (l + 1) (s .nextIndex) e in (
+            keep (s .nextIndex - 1) (omega arith) (omega arith) (λ k p y x. by-cases (ℕ-discrete k l)
                 (λ z. empty p (subst (λ m. T (ledger (s .log) m p)) z x))
-                (λ z. let q : l + 1 ≡ s .next = eqb-true (l + 1) (s .next) e in E .free k p (omega arith) x)),
+                (λ z. let q : l + 1 ≡ s .nextIndex = eqb-true (l + 1) (s .nextIndex) e in E .free k p (omega arith) x)),
             omega arith,
           )
-      pick true e false = (keep (s .next) (omega arith) (E .some) (E .free), hu)
-      pick false e c = (keep (s .next) (omega arith) (E .some) (E .free), hu)
+      pick true e false = (keep (s .nextIndex) (omega arith) (E .some) (E .free), hu)
+      pick false e c = (keep (s .nextIndex) (omega arith) (E .some) (E .free), hu)
 
   module _ (o : RunnerConfig) (w : ℕ) (gone : (p : ℕ) → isKey o image p ≡ true → isDiscard (o .keyingAction) ≡ true → Gone p) (keyed : (p : ℕ) → isKey o image p ≡ true → Keyed)
       (wide : (p : ℕ) → p < size → 0 < w) (only : (p : ℕ) → Gone p → (isKey o image p ≡ true) × (isDiscard (o .keyingAction) ≡ true)) where
-    pub place-early : (i l u : ℕ) (s : State) → Early image size Gone Keyed i s → i < size → l < s .next → u < s .next
+    pub place-early : (i l u : ℕ) (s : State) → Early image size Gone Keyed i s → i < size → l < s .nextIndex → u < s .nextIndex
         → (sameAt o image (some i) (left w i) ≡ true → l ≡ 0 → Keyed) → (sameAt o image (some i) (up w i) ≡ true → u ≡ 0 → Keyed)
         → Early image size Gone Keyed (suc i) (place o w image i l u s)
     unfolding place
@@ -460,23 +440,23 @@ module _ {image : List ℕ} {size : ℕ} {Gone : ℕ → Type 0} {Keyed : Type 0
         pick : (b : Bool) → isKey o image i ≡ b → (d : Bool) → isDiscard (o .keyingAction) ≡ d
             → (x : Bool) → sameAt o image (some i) (up w i) && sameAt o image (some i) (upLeft w i) ≡ x
             → (y : Bool) → sameAt o image (some i) (left w i) && sameAt o image (some i) (upLeft w i) ≡ y
-            → Early image size Gone Keyed (suc i) (if b then (if d then s else add i c at 0 s) else (if x then add i c at u s else (if y then add i c at l s else beginCluster i c at s)))
+            → Early image size Gone Keyed (suc i) (if b then (if d then s else addPixel i c at 0 s) else (if x then addPixel i c at u s else (if y then addPixel i c at l s else beginCluster i c at s)))
         pick true e true d x ex y ey = skip (gone i e d) (keyed i e)
         pick true e false d x ex y ey = add-early E fits (add-adds i 0 at s E (E .some)) (λ z. keyed i e) (λ x. true≢false (sym (only i x .1) ∙ d))
         pick false e d z true ex y ey = add-early E fits (add-adds i u at s E hu) (zu (both-true _ _ ex .0)) (plain-pixel e)
         pick false e d z false ex true ey = add-early E fits (add-adds i l at s E hl) (zl (both-true _ _ ey .0)) (plain-pixel e)
         pick false e d z false ex false ey = add-early E fits (beginCluster-adds i at s E) (λ z₀. absurd (omega (arith, E .some))) (plain-pixel e)
 
-    combine-place : (i l u : ℕ) (s : State) → Early image size Gone Keyed i s → i < size → l ≢ u → l < s .next → u < s .next → (l ≡ 0 → Keyed) → (u ≡ 0 → Keyed)
+    combine-place : (i l u : ℕ) (s : State) → Early image size Gone Keyed i s → i < size → l ≢ u → l < s .nextIndex → u < s .nextIndex → (l ≡ 0 → Keyed) → (u ≡ 0 → Keyed)
         → Early image size Gone Keyed (suc i) (combineThenPlace o w image i l u s)
     unfolding combineThenPlace
     combine-place i l u s E fits n hl hu zl zu = pick (leb (area (cluster s l)) (area (cluster s u)))
       where
-        pick : (b : Bool) → Early image size Gone Keyed (suc i) (if b then place o w image i u u (lowerNext l (combine l u s)) else place o w image i l l (combine u l s))
+        pick : (b : Bool) → Early image size Gone Keyed (suc i) (if b then place o w image i u u (lowerNext l (combineClusters l u s)) else place o w image i l l (combineClusters u l s))
         pick true =
-            let L = lower-early o w i l u (combine l u s) (combine-early i l u s E n hl hu zu) n hu (combine-empty i l u s E n hl hu zu) in
-            place-early i u u (lowerNext l (combine l u s)) (L .0) fits (L .1) (L .1) (λ x. zu) (λ x. zu)
-        pick false = place-early i l l (combine u l s) (combine-early i u l s E (λ e. n (sym e)) hu hl zl) fits hl hl (λ x. zl) (λ x. zl)
+            let L = lower-early o w i l u (combineClusters l u s) (combine-early i l u s E n hl hu zu) n hu (combine-empty i l u s E n hl hu zu) in
+            place-early i u u (lowerNext l (combineClusters l u s)) (L .0) fits (L .1) (L .1) (λ x. zu) (λ x. zu)
+        pick false = place-early i l l (combineClusters u l s) (combine-early i u l s E (λ e. n (sym e)) hu hl zl) fits hl hl (λ x. zl) (λ x. zl)
 
     pub take-early : (i : ℕ) (s : State) → Early image size Gone Keyed i s → i < size → Early image size Gone Keyed (suc i) (takePixel o w image i s)
     unfolding takePixel

@@ -7,12 +7,12 @@ use Prim.Native.Nat.{ℕ, zero, suc, _+_, _≤_, _<_}
 use native.Mathlib.Nat.{add-comm, add-assoc, add-zero, zero-add}
 use native.Mathlib.Decide.{ℕ-discrete, decLt}
 use native.Mathlib.Omega.{arith}
-use lib.Dec.{T, not-T, ltb, eqb, eqb→eq, eqb-refl}
+use lib.Dec.{T, not-T, eqb, eqb→eq, eqb-refl}
 use lib.ListN.{length, getD, set, length-set}
 use lib.Seq.{getD-set-same, getD-set-other}
 use Rattle.rules.specs.Base.{if_then_else_, keep}
-use Rattle.rules.specs.Color.{ColorSum, zeroSum, one, _⊕_, pixel}
-use Rattle.rules.specs.State.{relabel, State, cluster, area}
+use Rattle.rules.specs.Color.{ColorSum, zeroSum, sumOfOne, _⊕_, pixel}
+use Rattle.rules.specs.State.{relabel}
 use Rattle.rules.specs.Claim.{bit, occurs, tally, countOf}
 
 pub is-true : (b : Bool) → T b → b ≡ true
@@ -133,7 +133,7 @@ module _ (image : List ℕ) where
       y = tally image b n
 
       z : ColorSum
-      z = one (pixel image n)
+      z = sumOfOne (pixel image n)
 
       step : (u v : Bool) → (T u → T v → ⊥) → tally image (λ p. a p || b p) n ≡ x ⊕ y
           → (if u || v then tally image (λ p. a p || b p) n ⊕ z else tally image (λ p. a p || b p) n) ≡ (if u then x ⊕ z else x) ⊕ (if v then y ⊕ z else y)
@@ -153,11 +153,11 @@ module _ (image : List ℕ) where
   tally-before p (suc n) h = rw (eqb-no n p (omega arith)) (tally-before p n (omega arith))
 
   -- one pixel alone
-  pub tally-one : (p n : ℕ) → p < n → tally image (λ q. eqb q p) n ≡ one (pixel image p)
+  pub tally-one : (p n : ℕ) → p < n → tally image (λ q. eqb q p) n ≡ sumOfOne (pixel image p)
   unfolding tally
   tally-one p zero h = absurd (omega arith)
   tally-one p (suc n) h = by-cases (ℕ-discrete n p)
-      (λ e. rw (eqb-yes n p e) (ap (λ m. m ⊕ one (pixel image n)) (tally-before p n (omega arith)) ∙ ⊕-comm zeroSum (one (pixel image n)) ∙ ⊕-none (one (pixel image n)) ∙ ap (λ m. one (pixel image m)) e))
+      (λ e. rw (eqb-yes n p e) (ap (λ m. m ⊕ sumOfOne (pixel image n)) (tally-before p n (omega arith)) ∙ ⊕-comm zeroSum (sumOfOne (pixel image n)) ∙ ⊕-none (sumOfOne (pixel image n)) ∙ ap (λ m. sumOfOne (pixel image m)) e))
       (λ d. rw (eqb-no n p d) (tally-one p n (omega arith)))
 
 -- ---- fewer, and inside
@@ -226,10 +226,6 @@ countOf-swap f g k t s x y n l =
       countOf-lt (λ j. f j && not (eqb j t)) g (λ j z. let v = T-both (f j) (not (eqb j t)) z in s j (λ e. subst (λ b. T (not b)) (eqb-yes j t e) (v .1)) (v .0)) n k l y
           (λ z. x (T-both (f k) (not (eqb k t)) z .0)),
     )
-
--- slot k has pixels
-abbrev pub standing : State → ℕ → Bool
-standing s k = ltb 0 (area (cluster s k))
 
 pub countOf-none : (f : ℕ → Bool) → ((j : ℕ) → T (f j) → ⊥) → (n : ℕ) → countOf f n ≡ 0
 unfolding countOf

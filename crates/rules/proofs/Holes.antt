@@ -10,10 +10,10 @@ use lib.Dec.{eqb}
 use lib.ListN.{length, getD, List·getD-eq-default}
 use Rattle.rules.specs.Base.{if_then_else_}
 use Rattle.rules.specs.Color.{RunnerConfig}
-use Rattle.rules.specs.State.{State, newCluster, cluster, label, area, emptied, withCluster, mergedTo, deeper, withResidue, put, merge, deepen}
+use Rattle.rules.specs.State.{State, newCluster, cluster, label, area, emptied, withCluster, mergedTo, deeper, withResidue, putOut, mergeClusterInto, deepenClusterInto}
 use Rattle.rules.specs.Stage2.{prepareStage2, visit}
 use Rattle.rules.specs.Run.{stage1}
-use Rattle.rules.specs.Order.{start, turns}
+use Rattle.rules.specs.Code.Order.{start, turns}
 use Rattle.rules.specs.Claim.{bit, occurs}
 use Rattle.rules.proofs.Facts.{eqb-yes, eqb-no, occurs-append}
 use Rattle.rules.proofs.Basic.{three}
@@ -37,23 +37,23 @@ child-slot {s} H k c x = by-cases (decLt c (length (s .clusters)))
     (λ l. l)
     (λ l. let y = H .inside k c x in absurd (y .0 (sym (y .1) ∙ ap (λ d. d .mergedInto) (List·getD-eq-default (s .clusters) newCluster {n = c} (omega arith)))))
 
-pub put-holes : (k : ℕ) (s : State) → Holes s → Holes (put k s)
-unfolding put
+pub put-holes : (k : ℕ) (s : State) → Holes s → Holes (putOut k s)
+unfolding putOut
 put-holes k s H = record { inside = H .inside; once = H .once }
 
 module _ {image : List ℕ} {size : ℕ} (a k : ℕ) (s : State) (G : Going image size a k s) (pos : 0 < a) (e : area (cluster s k) ≡ a) (t : ℕ) (N : Near s (label s (getD (cluster s k .pixels) 0 0)) t) where
   -- a plain merge changes no hole list
-  pub merge-same-holes : (j : ℕ) → cluster (merge k t s) j .holes ≡ cluster s j .holes
+  pub merge-same-holes : (j : ℕ) → cluster (mergeClusterInto k t s) j .holes ≡ cluster s j .holes
   unfolding withResidue withCluster emptied
-  merge-same-holes = three k t (λ j. cluster (merge k t s) j .holes ≡ cluster s j .holes)
+  merge-same-holes = three k t (λ j. cluster (mergeClusterInto k t s) j .holes ≡ cluster s j .holes)
       (ap (λ c. c .holes) (merge-from a k s G pos e t N)) (ap (λ c. c .holes) (merge-to a k s G pos e t N)) (λ j m l. ap (λ c. c .holes) (merge-changes a k s G pos e t N .other j m l))
 
-  pub merge-same-into : (j : ℕ) → cluster (merge k t s) j .mergedInto ≡ cluster s j .mergedInto
+  pub merge-same-into : (j : ℕ) → cluster (mergeClusterInto k t s) j .mergedInto ≡ cluster s j .mergedInto
   unfolding emptied
-  merge-same-into = three k t (λ j. cluster (merge k t s) j .mergedInto ≡ cluster s j .mergedInto)
+  merge-same-into = three k t (λ j. cluster (mergeClusterInto k t s) j .mergedInto ≡ cluster s j .mergedInto)
       (ap (λ c. c .mergedInto) (merge-from a k s G pos e t N)) (merge-changes a k s G pos e t N .t-merged) (λ j m l. ap (λ c. c .mergedInto) (merge-changes a k s G pos e t N .other j m l))
 
-  pub merge-holes : Holes s → Holes (merge k t s)
+  pub merge-holes : Holes s → Holes (mergeClusterInto k t s)
   merge-holes H = record {
     inside = λ j c x. let y = H .inside j c (λ z. x (ap (occurs c) (merge-same-holes j) ∙ z)) in (y .0, merge-same-into c ∙ y .1);
     once = λ j c. subst (λ l. occurs c l ≤ 1) (sym (merge-same-holes j)) (H .once j c);
@@ -61,30 +61,30 @@ module _ {image : List ℕ} {size : ℕ} (a k : ℕ) (s : State) (G : Going imag
 
   module _ (b : Bool) where
     -- a deepening one only the target's
-    pub deepen-t-holes : cluster (deepen b k t s) t .holes ≡ (if b then cluster s t .holes ++ (k ∷ []) else cluster s t .holes)
+    pub deepen-t-holes : cluster (deepenClusterInto b k t s) t .holes ≡ (if b then cluster s t .holes ++ (k ∷ []) else cluster s t .holes)
     unfolding withCluster deeper
     deepen-t-holes = ap (λ c. c .holes) (deepen-to a k s G pos e t N b)
 
-    pub deepen-other-holes : (j : ℕ) → j ≢ t → cluster (deepen b k t s) j .holes ≡ cluster s j .holes
+    pub deepen-other-holes : (j : ℕ) → j ≢ t → cluster (deepenClusterInto b k t s) j .holes ≡ cluster s j .holes
     unfolding mergedTo
     deepen-other-holes j n = by-cases (ℕ-discrete j k)
-        (λ z. subst (λ m. cluster (deepen b k t s) m .holes ≡ cluster s m .holes) (sym z) (ap (λ c. c .holes) (deepen-from a k s G pos e t N b)))
+        (λ z. subst (λ m. cluster (deepenClusterInto b k t s) m .holes ≡ cluster s m .holes) (sym z) (ap (λ c. c .holes) (deepen-from a k s G pos e t N b)))
         (λ z. ap (λ c. c .holes) (deepen-changes a k s G pos e t N b .other j z n))
 
-    pub deepen-other-into : (j : ℕ) → j ≢ k → cluster (deepen b k t s) j .mergedInto ≡ cluster s j .mergedInto
+    pub deepen-other-into : (j : ℕ) → j ≢ k → cluster (deepenClusterInto b k t s) j .mergedInto ≡ cluster s j .mergedInto
     deepen-other-into j n = by-cases (ℕ-discrete j t)
-        (λ z. subst (λ m. cluster (deepen b k t s) m .mergedInto ≡ cluster s m .mergedInto) (sym z) (deepen-changes a k s G pos e t N b .t-merged))
+        (λ z. subst (λ m. cluster (deepenClusterInto b k t s) m .mergedInto ≡ cluster s m .mergedInto) (sym z) (deepen-changes a k s G pos e t N b .t-merged))
         (λ z. ap (λ c. c .mergedInto) (deepen-changes a k s G pos e t N b .other j n z))
 
-    pub deepen-into : cluster (deepen b k t s) k .mergedInto ≡ t
+    pub deepen-into : cluster (deepenClusterInto b k t s) k .mergedInto ≡ t
     unfolding mergedTo
     deepen-into = ap (λ c. c .mergedInto) (deepen-from a k s G pos e t N b)
 
-    pub deepen-holes : Holes s → Holes (deepen b k t s)
+    pub deepen-holes : Holes s → Holes (deepenClusterInto b k t s)
     deepen-holes H = record { inside = λ j. inside j (ℕ-discrete j t); once = λ j. once j (ℕ-discrete j t) }
       where
         u : State
-        u = deepen b k t s
+        u = deepenClusterInto b k t s
 
         unnamed : (j : ℕ) → occurs k (cluster s j .holes) ≡ 0
         unnamed = root-unnamed H k (root a k s G pos e)
@@ -124,7 +124,7 @@ visit-holes o w h a k s G pos e H =
 -- a cluster that deepened into another is left as it is by every later visit: the list of a hole child is the one it had as it deepened, which is what the Rust's `holes` copied
 pub deepened-stays : {image : List ℕ} {size : ℕ} (o : RunnerConfig) (w h a k : ℕ) (s : State) → Going image size a k s → 0 < a → (c : ℕ) → cluster s c .mergedInto ≢ 0
     → cluster (visit o w h a k s) c ≡ cluster s c
-unfolding put
+unfolding putOut
 deepened-stays o w h a k s G pos c d =
     visit-cases o w h a k s (λ u. cluster u c ≡ cluster s c) (λ x. refl) (λ z l. refl) (λ z l n. isolated-cases o w h a k s (λ u. cluster u c ≡ cluster s c) refl refl)
     (λ z l t N. merge-changes a k s G pos z t N .other c (not-k z) (not-t z t N))

@@ -11,16 +11,17 @@ use borrow.Author.Tests.{eqb-false, ltb-true}
 use lib.Dec.{T, eqb, eqb→eq, ltb, lt→ltb, ltb→lt}
 use lib.ListN.{length, getD}
 use Rattle.rules.specs.Base.{if_then_else_, member, keep}
-use Rattle.rules.specs.Color.{RunnerConfig, exceeds}
+use Rattle.rules.specs.Color.{RunnerConfig, hierarchicalMax, exceeds}
 use Rattle.rules.specs.Grid.{sides}
-use Rattle.rules.specs.State.{State, cluster, label, area, emptied, withCluster, mergedTo, deeper, withResidue, put, merge, deepen, plain, deepened}
-use Rattle.rules.specs.Stage2.{prepareStage2, holePixels, allIn, boundary, diff, deepens, visit}
+use Rattle.rules.specs.State.{State, cluster, label, area, emptied, withCluster, mergedTo, deeper, withResidue, putOut, mergeClusterInto, deepenClusterInto, plain, deepened}
+use Rattle.rules.specs.Stage2.{prepareStage2, holePixels, allIn, boundary, clusterDiff, patchGood, deepens, visit}
 use Rattle.rules.specs.Run.{stage1}
-use Rattle.rules.specs.Order.{anyOf, interior, start, turns}
+use Rattle.rules.specs.Code.Order.{anyOf, interior, start, turns}
 use Rattle.rules.specs.Ledger.{Held, enter, ledger}
 use Rattle.rules.specs.Claim.{bit, occurs, Stands, Holds}
+use Rattle.rules.specs.Code.Early.{Basic}
 use Rattle.rules.proofs.Facts.{is-true, T-or, T-or-l, T-or-r, eqb-yes, eqb-no, keep-le, same-bool, T-both, both-true, T-and}
-use Rattle.rules.proofs.Basic.{Basic, Moved, three, plain-f, plain-o, plain-up, deepened-o, deepened-up, deepened-to}
+use Rattle.rules.proofs.Basic.{Moved, three, plain-f, plain-o, plain-up, deepened-o, deepened-up, deepened-to}
 use Rattle.rules.proofs.Visits.{Going, Near, visit-cases-why, isolated-cases, stands, root, k≢t, target-root, target-stands, merge-changes, deepen-changes, merge-to, deepen-from, deepen-to}
 use Rattle.rules.proofs.Early.{settled}
 use Rattle.rules.proofs.Slots.{stage1-slots}
@@ -201,14 +202,16 @@ module _ (o : RunnerConfig) (w h : ℕ) where
 
   -- why it deepened
   deepens-boundary : (s : State) (k t : ℕ) → 1 ≤ o .goodMinArea → deepens o w h s k t ≡ true → ltb (boundary w h s k) (area (cluster s k)) ≡ true
-  unfolding deepens
+  unfolding deepens patchGood
   deepens-boundary s k t m e =
-      let f = eqb (o .hierarchical) 4294967295 && ltb (o .goodMinArea) (area (cluster s k)) && ltb (area (cluster s k)) (o .goodMaxArea) in
+      let all = eqb (o .hierarchical) hierarchicalMax in
+      let f = ltb (o .goodMinArea) (area (cluster s k)) && ltb (area (cluster s k)) (o .goodMaxArea) in
       let d = eqb (o .goodMinArea) 0 || ltb (boundary w h s k) (area (cluster s k)) in
-      rw (eqb-no (o .goodMinArea) 0 (λ z. omega arith)) at (both-true f d (both-true (f && d) (exceeds (diff s k t) (o .deepenDiff)) e .0) .1)
+      rw (eqb-no (o .goodMinArea) 0 (λ z. omega arith)) at
+      (both-true f d (both-true all (f && d) (both-true (all && (f && d)) (exceeds (clusterDiff s k t) (o .deepenDiff)) e .0) .1) .1)
 
-  put-hollowed : (k : ℕ) (s : State) → Hollowed s → Hollowed (put k s)
-  unfolding put
+  put-hollowed : (k : ℕ) (s : State) → Hollowed s → Hollowed (putOut k s)
+  unfolding putOut
   put-hollowed k s H = record { child = λ j c z i. let C = H .child j c z i in record { inner = C .inner; held = C .held; core = C .core } }
 
   -- a child stays one where neither it nor what it holds changes
@@ -229,8 +232,8 @@ module _ (o : RunnerConfig) (w h : ℕ) where
     not-t : (j c : ℕ) → Child (ledger (s .log)) s j c → c ≢ t
     not-t j c C z = C .inner (ap (λ m. cluster s m .mergedInto) z ∙ target-root a k s G pos e t N)
 
-    merge-hollowed : Hollowed (merge k t s)
-    unfolding merge withResidue withCluster emptied
+    merge-hollowed : Hollowed (mergeClusterInto k t s)
+    unfolding mergeClusterInto withResidue withCluster emptied
     merge-hollowed = record {
       child = three k t (λ j. (c : ℕ) → Stands g′ j → In c (cluster u j .holes) → Child g′ u j c)
           (λ c z i. absurd (subst (λ x. T (x (z .0))) (plain-f (ledger (s .log)) k t d) (z .1)))
@@ -239,19 +242,19 @@ module _ (o : RunnerConfig) (w h : ℕ) where
     }
       where
         u : State
-        u = merge k t s
+        u = mergeClusterInto k t s
 
         g′ : Held
         g′ = enter (plain k t) (ledger (s .log))
 
-        M : Moved k t s (merge k t s)
+        M : Moved k t s (mergeClusterInto k t s)
         M = merge-changes a k s G pos e t N
 
         on : (j : ℕ) → j ≢ k → (c : ℕ) → Child (ledger (s .log)) s j c → Child g′ u j c
         on j m c C = child-kept (ledger (s .log)) g′ s u j c (M .other c (not-k j c C) (not-t j c C)) (plain-o (ledger (s .log)) k t c (not-k j c C) (not-t j c C)) (λ q. plain-up (ledger (s .log)) k t d j q m) C
 
-    deepen-hollowed : (b : Bool) → Core (ledger (s .log) k) → Hollowed (deepen b k t s)
-    unfolding deepen mergedTo withCluster deeper
+    deepen-hollowed : (b : Bool) → Core (ledger (s .log) k) → Hollowed (deepenClusterInto b k t s)
+    unfolding deepenClusterInto mergedTo withCluster deeper
     deepen-hollowed b r = record {
       child = three k t (λ j. (c : ℕ) → Stands g′ j → In c (cluster u j .holes) → Child g′ u j c)
           (λ c z i. on k c (H .child k c (getD (cluster s k .pixels) 0 0, stands a k s G pos e) (subst (λ x. In c (x .holes)) (deepen-from a k s G pos e t N b) i)))
@@ -260,12 +263,12 @@ module _ (o : RunnerConfig) (w h : ℕ) where
     }
       where
         u : State
-        u = deepen b k t s
+        u = deepenClusterInto b k t s
 
         g′ : Held
         g′ = enter (deepened k t) (ledger (s .log))
 
-        M : Moved k t s (deepen b k t s)
+        M : Moved k t s (deepenClusterInto b k t s)
         M = deepen-changes a k s G pos e t N b
 
         on : (j c : ℕ) → Child (ledger (s .log)) s j c → Child g′ u j c
@@ -305,11 +308,12 @@ turns-hollowed o w h image l m = turns-keep o w h (Hollowed o w h) (visit-hollow
 
 -- so the visit may ask for an interior in the boundary's place, whatever the least area is
 pub deepens-interior : {image : List ℕ} {size : ℕ} (o : RunnerConfig) (w h : ℕ) (s : State) → Basic image size (ledger (s .log)) s → (1 ≤ o .goodMinArea → Hollowed o w h s) → (k t : ℕ)
-    → deepens o w h s k t ≡ eqb (o .hierarchical) 4294967295 && ltb (o .goodMinArea) (area (cluster s k)) && ltb (area (cluster s k)) (o .goodMaxArea)
-    && (eqb (o .goodMinArea) 0 || interior w h s k) && exceeds (diff s k t) (o .deepenDiff)
-unfolding deepens
+    → deepens o w h s k t ≡ eqb (o .hierarchical) hierarchicalMax
+    && (ltb (o .goodMinArea) (area (cluster s k)) && ltb (area (cluster s k)) (o .goodMaxArea) && (eqb (o .goodMinArea) 0 || interior w h s k))
+    && exceeds (clusterDiff s k t) (o .deepenDiff)
+unfolding deepens patchGood
 deepens-interior o w h s B H k t =
-    ap (λ b. eqb (o .hierarchical) 4294967295 && ltb (o .goodMinArea) (area (cluster s k)) && ltb (area (cluster s k)) (o .goodMaxArea) && b && exceeds (diff s k t) (o .deepenDiff))
+    ap (λ b. eqb (o .hierarchical) hierarchicalMax && (ltb (o .goodMinArea) (area (cluster s k)) && ltb (area (cluster s k)) (o .goodMaxArea) && b) && exceeds (clusterDiff s k t) (o .deepenDiff))
     (pick (eqb (o .goodMinArea) 0) refl)
   where
     pick : (b : Bool) → eqb (o .goodMinArea) 0 ≡ b → b || ltb (boundary w h s k) (area (cluster s k)) ≡ b || interior w h s k

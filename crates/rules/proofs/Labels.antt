@@ -15,11 +15,11 @@ use Rattle.rules.specs.State.{State, cluster, label}
 use Rattle.rules.specs.Stage1.{isKey}
 use Rattle.rules.specs.Stage2.{allIn, prepareStage2}
 use Rattle.rules.specs.Run.{stage1}
-use Rattle.rules.specs.Order.{anyOf, interior, start, turns}
+use Rattle.rules.specs.Code.Order.{anyOf, interior, start, turns}
 use Rattle.rules.specs.Layout.{link}
 use Rattle.rules.specs.Ledger.{ledger}
 use Rattle.rules.specs.Claim.{bit}
-use Rattle.rules.specs.Ranges.{Below}
+use Rattle.rules.specs.Code.Ranges.{AllBelow}
 use Rattle.rules.specs.Demand3.{Discarded, Agrees}
 use Rattle.rules.proofs.Facts.{is-false, eqb-yes}
 use Rattle.rules.proofs.Visits.{Going}
@@ -66,7 +66,7 @@ allIn-same o w h f g [] a = refl
 allIn-same o w h f g (off ∷ is) a = refl
 allIn-same o w h f g (some i ∷ is) a = ap₂ (λ x y. x && y) (a .0) (allIn-same o w h f g is (a .1))
 
-any-same : (f g : ℕ → Bool) (n : ℕ) (xs : List ℕ) → Below n xs → ((p : ℕ) → p < n → f p ≡ g p) → anyOf f xs ≡ anyOf g xs
+any-same : (f g : ℕ → Bool) (n : ℕ) (xs : List ℕ) → AllBelow n xs → ((p : ℕ) → p < n → f p ≡ g p) → anyOf f xs ≡ anyOf g xs
 any-same f g n [] b e = refl
 any-same f g n (x ∷ xs) b e = ap₂ (λ y z. y || z) (e x (b .0)) (any-same f g n xs (b .1) e)
 
@@ -87,11 +87,11 @@ module _ (o : RunnerConfig) (w h : ℕ) (image : List ℕ) where
   member-label a m s G C k r q l = member-held (G .sound .basic) k q ∙ go (ledger (s .log) k q) refl (eqb (label s q) k) refl (isKey o image q && isDiscard (o .keyingAction)) refl
     where
       go : (b : Bool) → ledger (s .log) k q ≡ b → (c : Bool) → eqb (label s q) k ≡ c → (d : Bool) → (isKey o image q && isDiscard (o .keyingAction)) ≡ d → b ≡ c && not d
-      go true x true y true z = absurd (C .discarded k q (subst T (sym z) tt) (subst T (sym x) tt))
+      go true x true y true z = absurd (C .view .discarded k q (subst T (sym z) tt) (subst T (sym x) tt))
       go true x true y false z = refl
       go true x false y d z = absurd (subst T (sym (eqb-yes (label s q) k (G .sound .tops k q (subst T (sym x) tt) r)) ∙ y) tt)
       go false x true y true z = refl
-      go false x true y false z = absurd (subst T (sym (ap (λ j. ledger (s .log) j q) (sym (eqb→eq (label s q) k (subst T (sym y) tt)))) ∙ x) (C .labelled q l (λ t. subst T z t) .0))
+      go false x true y false z = absurd (subst T (sym (ap (λ j. ledger (s .log) j q) (sym (eqb→eq (label s q) k (subst T (sym y) tt)))) ∙ x) (C .view .labelled q l (λ t. subst T z t) .0))
       go false x false y d z = refl
 
   -- the interior told by the labels
@@ -107,4 +107,4 @@ module _ (o : RunnerConfig) (w h : ℕ) (image : List ℕ) where
   -- "The link of a discarded pixel is 0."
   pub discarded-link : (s : State) → Agrees o w h image (ledger (s .log)) s → (p : ℕ) → Discarded o image p → link s p ≡ 0
   unfolding link
-  discarded-link s C p d = after-none p (cluster s (label s p) .pixels) (C .lists (label s p) p ∙ ap bit (is-false (ledger (s .log) (label s p) p) (C .discarded (label s p) p d)))
+  discarded-link s C p d = after-none p (cluster s (label s p) .pixels) (C .view .lists (label s p) p ∙ ap bit (is-false (ledger (s .log) (label s p) p) (C .view .discarded (label s p) p d)))

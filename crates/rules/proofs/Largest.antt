@@ -8,16 +8,17 @@ use native.Mathlib.Decide.{ℕ-discrete, decLt}
 use native.Mathlib.Omega.{arith}
 use lib.Dec.{T, eqb, ltb, leb, leb→le, le→leb}
 use lib.ListN.{length, getD, length-append}
-use Rattle.rules.specs.Base.{if_then_else_, noneAbove, insert}
+use Rattle.rules.specs.Base.{if_then_else_, noneAbove, insertOnce}
 use Rattle.rules.specs.Color.{RunnerConfig}
-use Rattle.rules.specs.State.{State, Cluster, newCluster, cluster, label, area, emptied, mergedTo, withResidue, put, merge, deepen}
+use Rattle.rules.specs.State.{State, Cluster, newCluster, cluster, label, area, emptied, mergedTo, withResidue, putOut, mergeClusterInto, deepenClusterInto}
 use Rattle.rules.specs.Stage2.{areasOf, prepareStage2, visit}
 use Rattle.rules.specs.Run.{stage1}
 use Rattle.rules.specs.Ledger.{ledger}
 use Rattle.rules.specs.Claim.{Stands}
-use Rattle.rules.specs.Order.{largest, start, turns}
+use Rattle.rules.specs.Code.Order.{largest, start, turns}
+use Rattle.rules.specs.Code.Early.{Basic}
 use Rattle.rules.proofs.Facts.{countOf-some, countOf-none, same-bool, T-both, T-and}
-use Rattle.rules.proofs.Basic.{Basic, Moved, three}
+use Rattle.rules.proofs.Basic.{Moved, three}
 use Rattle.rules.proofs.Visits.{Going, Near, visit-cases, isolated-cases, merge-changes, deepen-changes, merge-from, deepen-from}
 use Rattle.rules.proofs.Early.{settled}
 use Rattle.rules.proofs.Whole.{early}
@@ -25,12 +26,12 @@ use Rattle.rules.proofs.Outputs.{In, area-countOf}
 use Rattle.rules.proofs.Listed.{Listed, put-listed, merge-listed, deepen-listed, prepareStage2-listed, merge-lists, deepen-lists}
 use Rattle.rules.proofs.Order.{Turning, turns-keep, start-turning}
 
-pub insert-from : (x a : ℕ) (xs : List ℕ) → In x (insert a xs) → (x ≡ a) ⊎ In x xs
+pub insert-from : (x a : ℕ) (xs : List ℕ) → In x (insertOnce a xs) → (x ≡ a) ⊎ In x xs
 insert-from x a [] (inl e) = inl e
 insert-from x a [] (inr i) = absurd i
 insert-from x a (y ∷ ys) i = pick (ltb a y) (eqb a y) i (insert-from x a ys)
   where
-    pick : (b c : Bool) → In x (if b then a ∷ y ∷ ys else (if c then y ∷ ys else y ∷ insert a ys)) → (In x (insert a ys) → (x ≡ a) ⊎ In x ys) → (x ≡ a) ⊎ ((x ≡ y) ⊎ In x ys)
+    pick : (b c : Bool) → In x (if b then a ∷ y ∷ ys else (if c then y ∷ ys else y ∷ insertOnce a ys)) → (In x (insertOnce a ys) → (x ≡ a) ⊎ In x ys) → (x ≡ a) ⊎ ((x ≡ y) ⊎ In x ys)
     pick true c (inl e) ih = inl e
     pick true c (inr z) ih = inr z
     pick false true z ih = inr z
@@ -40,9 +41,9 @@ insert-from x a (y ∷ ys) i = pick (ltb a y) (eqb a y) i (insert-from x a ys)
 areas-from : (x : ℕ) (cs : List Cluster) (l : List ℕ) → In x (areasOf cs l) → In x l ⊎ ((j : ℕ) × (x ≡ area (getD cs j newCluster)))
 unfolding areasOf
 areas-from x [] l i = inl i
-areas-from x (c ∷ cs) l i = elim (areas-from x cs (if eqb (area c) 0 then l else insert (area c) l) i) [ inl z ↦ pick (eqb (area c) 0) z | inr z ↦ inr (suc (z .0), z .1) ]
+areas-from x (c ∷ cs) l i = elim (areas-from x cs (if eqb (area c) 0 then l else insertOnce (area c) l) i) [ inl z ↦ pick (eqb (area c) 0) z | inr z ↦ inr (suc (z .0), z .1) ]
   where
-    pick : (b : Bool) → In x (if b then l else insert (area c) l) → In x l ⊎ ((j : ℕ) × (x ≡ area (getD (c ∷ cs) j newCluster)))
+    pick : (b : Bool) → In x (if b then l else insertOnce (area c) l) → In x l ⊎ ((j : ℕ) × (x ≡ area (getD (c ∷ cs) j newCluster)))
     pick true z = inl z
     pick false z = elim (insert-from x (area c) l z) [ inl e ↦ inr (0, e) | inr z ↦ inl z ]
 
@@ -65,8 +66,8 @@ largest-le (c ∷ cs) a f = omega (arith, f 0, largest-le cs a (λ j. f (suc j))
 pub record Topped (s : State) : Type 0 where
   pub tops : (x : ℕ) → In x (s .listed) → (j : ℕ) × (x ≤ area (cluster s j))
 
-put-topped : (k : ℕ) (s : State) → Topped s → Topped (put k s)
-unfolding put
+put-topped : (k : ℕ) (s : State) → Topped s → Topped (putOut k s)
+unfolding putOut
 put-topped k s L = record { tops = L .tops }
 
 -- the from's count is not above the to's new one
@@ -78,7 +79,7 @@ module _ (k t : ℕ) (s u : State) (M : Moved k t s u) where
   above = three k t (λ j. (i : ℕ) × (area (cluster s j) ≤ area (cluster u i))) (t, omega (arith, grows)) (t, omega (arith, grows))
       (λ j m n. (j, omega (arith, ap area (M .other j m n))))
 
-  moved-topped : Topped s → u .listed ≡ insert (area (cluster u t)) (s .listed) → Topped u
+  moved-topped : Topped s → u .listed ≡ insertOnce (area (cluster u t)) (s .listed) → Topped u
   moved-topped L e = record {
     tops = λ x i. elim (insert-from x (area (cluster u t)) (s .listed) (subst (In x) e i)) [
       | inl z ↦ (t, omega arith)
@@ -98,13 +99,13 @@ module _ (k t : ℕ) (s u : State) (M : Moved k t s u) where
       down = largest-le (s .clusters) (largest (u .clusters)) (λ j. let i = above j in omega (arith, i .1, largest-ge (u .clusters) (i .0)))
 
 module _ {image : List ℕ} {size : ℕ} (a k : ℕ) (s : State) (G : Going image size a k s) (pos : 0 < a) (e : area (cluster s k) ≡ a) (t : ℕ) (N : Near s (label s (getD (cluster s k .pixels) 0 0)) t) where
-  pub merge-largest : largest (merge k t s .clusters) ≡ max (largest (s .clusters)) (area (cluster (merge k t s) t))
+  pub merge-largest : largest (mergeClusterInto k t s .clusters) ≡ max (largest (s .clusters)) (area (cluster (mergeClusterInto k t s) t))
   unfolding emptied
-  merge-largest = moved-largest k t s (merge k t s) (merge-changes a k s G pos e t N) (omega (arith, ap area (merge-from a k s G pos e t N)))
+  merge-largest = moved-largest k t s (mergeClusterInto k t s) (merge-changes a k s G pos e t N) (omega (arith, ap area (merge-from a k s G pos e t N)))
 
-  pub deepen-largest : (b : Bool) → largest (deepen b k t s .clusters) ≡ max (largest (s .clusters)) (area (cluster (deepen b k t s) t))
+  pub deepen-largest : (b : Bool) → largest (deepenClusterInto b k t s .clusters) ≡ max (largest (s .clusters)) (area (cluster (deepenClusterInto b k t s) t))
   unfolding mergedTo
-  deepen-largest b = moved-largest k t s (deepen b k t s) (deepen-changes a k s G pos e t N b) (omega (arith, ap area (deepen-from a k s G pos e t N b)))
+  deepen-largest b = moved-largest k t s (deepenClusterInto b k t s) (deepen-changes a k s G pos e t N b) (omega (arith, ap area (deepen-from a k s G pos e t N b)))
 
 prepareStage2-topped : (s : State) → Topped (prepareStage2 s)
 unfolding prepareStage2 withResidue
@@ -115,10 +116,10 @@ module _ {image : List ℕ} {size : ℕ} where
   pub visit-listed : (o : RunnerConfig) (w h a k : ℕ) (s : State) → Going image size a k s → 0 < a → area (cluster s k) ≡ a → Listed s × Topped s → Listed (visit o w h a k s) × Topped (visit o w h a k s)
   visit-listed o w h a k s G pos e R =
       visit-cases o w h a k s (λ u. Listed u × Topped u) (λ x. R) (λ z l. out) (λ z l n. isolated-cases o w h a k s (λ u. Listed u × Topped u) out R)
-      (λ z l t N. (merge-listed a k s G (R .0) pos e t N, moved-topped k t s (merge k t s) (merge-changes a k s G pos e t N) (R .1) (merge-lists a k s G pos e t N)))
-      (λ z l t N b. (deepen-listed a k s G (R .0) pos e t N b, moved-topped k t s (deepen b k t s) (deepen-changes a k s G pos e t N b) (R .1) (deepen-lists a k s G pos e t N b)))
+      (λ z l t N. (merge-listed a k s G (R .0) pos e t N, moved-topped k t s (mergeClusterInto k t s) (merge-changes a k s G pos e t N) (R .1) (merge-lists a k s G pos e t N)))
+      (λ z l t N b. (deepen-listed a k s G (R .0) pos e t N b, moved-topped k t s (deepenClusterInto b k t s) (deepen-changes a k s G pos e t N b) (R .1) (deepen-lists a k s G pos e t N b)))
     where
-      out : Listed (put k s) × Topped (put k s)
+      out : Listed (putOut k s) × Topped (putOut k s)
       out = (put-listed k s (R .0), put-topped k s (R .1))
 
   area-stands : {s : State} → Basic image size (ledger (s .log)) s → (j : ℕ) → 0 < area (cluster s j) → Stands (ledger (s .log)) j

@@ -1,26 +1,27 @@
 -- How lists lie one after another, and that the layout of a state holds it.
 use mathlib.Core.Path.{_≡_, refl, sym, ap, _∙_, subst}
 use mathlib.Core.Logic.{by-cases}
-use mathlib.Core.List.{List, [], _∷_, _++_, map, append-assoc, append-nil}
+use mathlib.Core.List.{List, [], _∷_, _++_, map, append-assoc, append-nil, flatten}
 use Prim.Native.Nat.{ℕ, zero, suc, _+_, _*_, _≤_, _<_}
 use native.Mathlib.Decide.{ℕ-discrete}
 use native.Mathlib.Nat.{mul-suc, mul-le-mul-left}
 use native.Mathlib.Omega.{arith}
 use lib.ListN.{length, getD, drop, length-append, length-map, List·getD-append, List·getD-map}
 use lib.Seq.{getD-append-add, getD-append-seam}
-use Rattle.rules.specs.Base.{upTo, concat}
+use Rattle.rules.specs.Base.{upTo}
 use Rattle.rules.specs.State.{State}
 use Rattle.rules.specs.Layout.{slotWidth, link, links, sumNumbers, slot, table}
-use Rattle.rules.specs.Paint.{Lies}
+use Rattle.rules.specs.Code.InBuffers.{InBuffers}
 use Rattle.rules.specs.Calls.{Buffers, leaves}
 
-concat-append : (g : ℕ → List ℕ) (xs : List ℕ) (n : ℕ) → concat (map g (xs ++ (n ∷ []))) ≡ concat (map g xs) ++ g n
-concat-append g [] n = append-nil (g n)
-concat-append g (x ∷ xs) n = ap (λ l. g x ++ l) (concat-append g xs n) ∙ sym (append-assoc (g x) (concat (map g xs)) (g n))
+flatten-append : (g : ℕ → List ℕ) (xs : List ℕ) (n : ℕ) → flatten (map g (xs ++ (n ∷ []))) ≡ flatten (map g xs) ++ g n
+unfolding flatten
+flatten-append g [] n = append-nil (g n)
+flatten-append g (x ∷ xs) n = ap (λ l. g x ++ l) (flatten-append g xs n) ∙ sym (append-assoc (g x) (flatten (map g xs)) (g n))
 
-pub concat-snoc : (g : ℕ → List ℕ) (n : ℕ) → concat (map g (upTo (suc n))) ≡ concat (map g (upTo n)) ++ g n
+pub flatten-snoc : (g : ℕ → List ℕ) (n : ℕ) → flatten (map g (upTo (suc n))) ≡ flatten (map g (upTo n)) ++ g n
 unfolding upTo
-concat-snoc g n = concat-append g (upTo n) n
+flatten-snoc g n = flatten-append g (upTo n) n
 
 pub upTo-length : (n : ℕ) → length (upTo n) ≡ n
 unfolding upTo
@@ -44,23 +45,23 @@ single : (f : ℕ → ℕ) (n p : ℕ) → p < n → getD (map f (upTo n)) p 0 �
 single f n p l = getD-any (map f (upTo n)) p 0 (f 0) (omega (arith, length-map (upTo n) f, upTo-length n)) ∙ List·getD-map f (upTo n) p 0 ∙ ap f (upTo-at n p l)
 
 -- where n entries are written one after another, each k long
-pub spread : (g : ℕ → List ℕ) (k : ℕ) → ((i : ℕ) → length (g i) ≡ k) → (n : ℕ) → length (concat (map g (upTo n))) ≡ k * n
-unfolding upTo
+pub spread : (g : ℕ → List ℕ) (k : ℕ) → ((i : ℕ) → length (g i) ≡ k) → (n : ℕ) → length (flatten (map g (upTo n))) ≡ k * n
+unfolding flatten upTo
 spread g k e zero = omega arith
-spread g k e (suc n) = ap length (concat-snoc g n) ∙ length-append (concat (map g (upTo n))) (g n) ∙ omega (arith, spread g k e n, e n, mul-suc k n)
+spread g k e (suc n) = ap length (flatten-snoc g n) ∙ length-append (flatten (map g (upTo n))) (g n) ∙ omega (arith, spread g k e n, e n, mul-suc k n)
 
-pub spread-at : (g : ℕ → List ℕ) (k : ℕ) → ((i : ℕ) → length (g i) ≡ k) → (n i f : ℕ) → i < n → f < k → getD (concat (map g (upTo n))) (k * i + f) 0 ≡ getD (g i) f 0
+pub spread-at : (g : ℕ → List ℕ) (k : ℕ) → ((i : ℕ) → length (g i) ≡ k) → (n i f : ℕ) → i < n → f < k → getD (flatten (map g (upTo n))) (k * i + f) 0 ≡ getD (g i) f 0
 unfolding upTo
 spread-at g k e zero i f l b = absurd (omega arith)
-spread-at g k e (suc n) i f l b = ap (λ xs. getD xs (k * i + f) 0) (concat-snoc g n) ∙ go (ℕ-discrete i n) (spread-at g k e n i f)
+spread-at g k e (suc n) i f l b = ap (λ xs. getD xs (k * i + f) 0) (flatten-snoc g n) ∙ go (ℕ-discrete i n) (spread-at g k e n i f)
   where
-    go : Dec (i ≡ n) → (i < n → f < k → getD (concat (map g (upTo n))) (k * i + f) 0 ≡ getD (g i) f 0) → getD (concat (map g (upTo n)) ++ g n) (k * i + f) 0 ≡ getD (g i) f 0
+    go : Dec (i ≡ n) → (i < n → f < k → getD (flatten (map g (upTo n))) (k * i + f) 0 ≡ getD (g i) f 0) → getD (flatten (map g (upTo n)) ++ g n) (k * i + f) 0 ≡ getD (g i) f 0
     go (yes z) ih =
-        subst (λ j. getD (concat (map g (upTo n)) ++ g n) (k * j + f) 0 ≡ getD (g j) f 0) (sym z)
-        (subst (λ x. getD (concat (map g (upTo n)) ++ g n) (x + f) 0 ≡ getD (g n) f 0) (spread g k e n) (getD-append-add (concat (map g (upTo n))) (g n) f 0))
+        subst (λ j. getD (flatten (map g (upTo n)) ++ g n) (k * j + f) 0 ≡ getD (g j) f 0) (sym z)
+        (subst (λ x. getD (flatten (map g (upTo n)) ++ g n) (x + f) 0 ≡ getD (g n) f 0) (spread g k e n) (getD-append-add (flatten (map g (upTo n))) (g n) f 0))
     go (no z) ih =
         let m : k * suc i ≤ k * n = mul-le-mul-left k (omega arith) in
-        List·getD-append (concat (map g (upTo n))) (g n) 0 (k * i + f) (omega (arith, spread g k e n, mul-suc k i)) ∙ ih (omega arith) b
+        List·getD-append (flatten (map g (upTo n))) (g n) 0 (k * i + f) (omega (arith, spread g k e n, mul-suc k i)) ∙ ih (omega arith) b
 
 pub links-length : (s : State) → length (links s) ≡ length (s .labels)
 unfolding links
@@ -80,9 +81,9 @@ table-at s k f l b = spread-at (slot s) slotWidth (λ j. refl) (length (s .clust
 
 -- a state lies in buffers that its lists are written over
 module _ (size : ℕ) (s : State) (e : length (s .labels) ≡ size) where
-  pub leaves-lies : (b : Buffers) → Lies size s (length (s .clusters)) (length (s .outputs)) (leaves s b .links) (leaves s b .table) (leaves s b .outputs)
+  pub leaves-in-buffers : (b : Buffers) → InBuffers size s (length (s .clusters)) (length (s .outputs)) (leaves s b .links) (leaves s b .table) (leaves s b .outputs)
   unfolding leaves
-  leaves-lies b = record {
+  leaves-in-buffers b = record {
     slots = refl;
     entries = refl;
     linked = λ p l. List·getD-append (links s) (drop (length (links s)) (b .links)) 0 p (omega (arith, e, links-length s)) ∙ links-at s p (omega (arith, e));

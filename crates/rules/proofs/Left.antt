@@ -12,23 +12,23 @@ use Rattle.rules.specs.Color.{RunnerConfig}
 use Rattle.rules.specs.State.{State, Cluster, newCluster, cluster, label}
 use Rattle.rules.specs.Run.{run}
 use Rattle.rules.specs.Picture.{paint}
-use Rattle.rules.specs.Paint.{sumOf, residueOf, pixelsOf, Lies}
+use Rattle.rules.specs.Paint.{slotSum, slotResidue, slotPixels}
+use Rattle.rules.specs.Code.InBuffers.{InBuffers}
 use Rattle.rules.specs.Calls.{Buffers, Ran, RanAndPainted, leaves, accepted, refused, runNumber, runCall, paintCall, runAndPaintNumber, runAndPaintCall}
 use Rattle.rules.specs.Ledger.{Held, ledger}
-use Rattle.rules.specs.Claim.{Stands}
 use Rattle.rules.specs.Demand3.{View, stateView, bufferView, AgreesIn, Agrees, Demand3Left}
 use Rattle.rules.proofs.Moments.{run-returned, run-width}
 use Rattle.rules.proofs.Pictures.{run-pictured}
-use Rattle.rules.proofs.Layouts.{leaves-lies}
+use Rattle.rules.proofs.Layouts.{leaves-in-buffers}
 use Rattle.rules.proofs.Paint.{slot-sum, slot-residue, slot-pixels}
 use Rattle.rules.proofs.Calls.{run-then-paint}
 use Rattle.rules.proofs.Demand3.{demand3}
 
 -- what is said of a view holds of another that shows the same
 pub agrees-same : {o : RunnerConfig} {w h : ℕ} {image : List ℕ} {held : Held} {u v : View} → AgreesIn o w h image held u
-    → v .slots ≡ u .slots → ((p : ℕ) → p < w * h → v .label p ≡ u .label p) → ((k : ℕ) → v .pixels k ≡ u .pixels k) → ((k : ℕ) → Stands held k → v .chain k ≡ v .pixels k)
+    → v .slots ≡ u .slots → ((p : ℕ) → p < w * h → v .label p ≡ u .label p) → ((k : ℕ) → v .pixels k ≡ u .pixels k)
     → ((k : ℕ) → v .sum k ≡ u .sum k) → ((k : ℕ) → v .residue k ≡ u .residue k) → AgreesIn o w h image held v
-agrees-same A slots labels pixels chains sums residues = record {
+agrees-same A slots labels pixels sums residues = record {
   placed = λ k p t. rw slots (A .placed k p t);
   counts = λ k. rw (sums k) (A .counts k);
   whole = A .whole;
@@ -36,14 +36,13 @@ agrees-same A slots labels pixels chains sums residues = record {
   labelled = λ p l d. rw (labels p l) (A .labelled p l d);
   discarded = A .discarded;
   lists = λ k p. rw (pixels k) (A .lists k p);
-  chains = chains;
   sums = λ k. sums k ∙ A .sums k;
   residues = λ k z. rw (residues k) (A .residues k z);
   shade = A .shade;
 }
 
 -- a state that agrees with a ledger, and buffers that it lies in
-module _ {o : RunnerConfig} {w h : ℕ} {image : List ℕ} {held : Held} {n m : ℕ} {ls tb os : List ℕ} (s : State) (A : Agrees o w h image held s) (L : Lies (w * h) s n m ls tb os) where
+module _ {o : RunnerConfig} {w h : ℕ} {image : List ℕ} {held : Held} {n m : ℕ} {ls tb os : List ℕ} (s : State) (A : Agrees o w h image held s) (L : InBuffers (w * h) s n m ls tb os) where
   -- what is read of slot k; beyond the slots there is no cluster
   slot-same : {B : Type 0} (f : Cluster → B) (k : ℕ) (x : B) → (k < n → x ≡ f (cluster s k)) → (if ltb k n then x else f newCluster) ≡ f (cluster s k)
   slot-same f k x same = go (ltb k n) refl
@@ -53,12 +52,12 @@ module _ {o : RunnerConfig} {w h : ℕ} {image : List ℕ} {held : Held} {n m : 
       go false z = sym (ap f (List·getD-eq-default (s .clusters) newCluster (omega (arith, L .slots, ltb-false k n z))))
 
   pub residue-same : (labels : List ℕ) (k : ℕ) → bufferView n labels ls tb .residue k ≡ stateView s .residue k
-  residue-same labels k = slot-same (λ c. c .residue) k (residueOf tb k) (slot-residue s A L k)
+  residue-same labels k = slot-same (λ c. c .residue) k (slotResidue tb k) (slot-residue s A L k)
 
-  pub lies-agrees : (labels : List ℕ) → ((p : ℕ) → p < w * h → getD labels p 0 ≡ label s p) → AgreesIn o w h image held (bufferView n labels ls tb)
-  lies-agrees labels same =
-      agrees-same A (L .slots) same (λ k. slot-same (λ c. c .pixels) k (pixelsOf ls tb k) (λ l. slot-pixels s A L k l .1)) (λ k z. refl)
-      (λ k. slot-same (λ c. c .sum) k (sumOf tb k) (slot-sum s A L k)) (residue-same labels)
+  pub in-buffers-agrees : (labels : List ℕ) → ((p : ℕ) → p < w * h → getD labels p 0 ≡ label s p) → AgreesIn o w h image held (bufferView n labels ls tb)
+  in-buffers-agrees labels same =
+      agrees-same (A .view) (L .slots) same (λ k. slot-same (λ c. c .pixels) k (slotPixels ls tb k) (λ l. slot-pixels s A L k l .1))
+      (λ k. slot-same (λ c. c .sum) k (slotSum tb k) (slot-sum s A L k)) (residue-same labels)
 
 -- what an accepted run leaves in the buffers b
 module _ (o : RunnerConfig) (w h : ℕ) (image : List ℕ) (b : Buffers) where
@@ -67,7 +66,7 @@ module _ (o : RunnerConfig) (w h : ℕ) (image : List ℕ) (b : Buffers) where
   unfolding leaves
   left-agrees =
       let s = run o w h image in
-      lies-agrees s (run-returned o w h image) (leaves-lies (w * h) s (run-width o w h image) b) (leaves s b .labels)
+      in-buffers-agrees s (run-returned o w h image) (leaves-in-buffers (w * h) s (run-width o w h image) b) (leaves s b .labels)
       (λ p l. List·getD-append (s .labels) (drop (length (s .labels)) (b .labels)) 0 p (omega (arith, run-width o w h image)))
 
   pub demand3-left : Demand3Left o w h image (length (run o w h image .clusters))
@@ -78,7 +77,7 @@ module _ (o : RunnerConfig) (w h : ℕ) (image : List ℕ) (b : Buffers) where
     pictured = λ off p l.
         let s = run o w h image in
         let x = run-pictured o w h image off p l in
-        let e = residue-same s (run-returned o w h image) (leaves-lies (w * h) s (run-width o w h image) b) (leaves s b .labels) (x .0) in
+        let e = residue-same s (run-returned o w h image) (leaves-in-buffers (w * h) s (run-width o w h image) b) (leaves s b .labels) (x .0) in
         (x .0, x .1, rw e (x .2), rw e (x .3));
   }
 

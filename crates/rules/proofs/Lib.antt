@@ -1,6 +1,5 @@
 -- The proofs about the rules.
 pub mod Forest
-pub mod Owned
 pub mod Facts
 pub mod Basic
 pub mod Sound

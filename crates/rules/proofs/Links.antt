@@ -13,8 +13,9 @@ use Rattle.rules.specs.State.{State, cluster, label}
 use Rattle.rules.specs.Layout.{after, firstOf, link}
 use Rattle.rules.specs.Ledger.{Held}
 use Rattle.rules.specs.Claim.{bit, occurs}
+use Rattle.rules.specs.Code.Early.{Basic}
 use Rattle.rules.proofs.Facts.{eqb-yes, eqb-no, occurs-append, length-relabel}
-use Rattle.rules.proofs.Basic.{Basic, Moved, lab-from, lab-other, held-some, held-none, once-held, some-held}
+use Rattle.rules.proofs.Basic.{Moved, lab-from, lab-other, held-some, held-none, once-held, some-held}
 
 unfoldable pub last : List ℕ → ℕ
 last [] = 0

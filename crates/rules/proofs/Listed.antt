@@ -8,33 +8,34 @@ use native.Mathlib.Omega.{arith}
 use borrow.Author.Tests.{eqb-true}
 use lib.Dec.{T, eqb, ltb}
 use lib.ListN.{length, getD}
-use Rattle.rules.specs.Base.{if_then_else_, times, insert}
+use Rattle.rules.specs.Base.{if_then_else_, times, insertOnce}
 use Rattle.rules.specs.Color.{RunnerConfig}
-use Rattle.rules.specs.State.{State, Cluster, newCluster, cluster, label, area, withCluster, mergedTo, deeper, withResidue, put, merge, deepen}
+use Rattle.rules.specs.State.{State, Cluster, newCluster, cluster, label, area, withCluster, mergedTo, deeper, withResidue, putOut, mergeClusterInto, deepenClusterInto}
 use Rattle.rules.specs.Stage2.{areasOf, prepareStage2, visit, pass, passes}
 use Rattle.rules.specs.Ledger.{ledger}
 use Rattle.rules.specs.Claim.{Stands}
+use Rattle.rules.specs.Code.Early.{Early}
 use Rattle.rules.proofs.Facts.{eqb-no}
 use Rattle.rules.proofs.Basic.{Moved, three, plain-down, plain-o, deepened-o}
 use Rattle.rules.proofs.Visits.{Going, Near, visit-cases, isolated-cases, stands, root, k≢t, merge-changes, deepen-changes, deepen-from, passes-keep}
-use Rattle.rules.proofs.Early.{Early, settled}
+use Rattle.rules.proofs.Early.{settled}
 use Rattle.rules.proofs.Outputs.{In, area-pos}
 
-pub insert-old : (x a : ℕ) (xs : List ℕ) → In x xs → In x (insert a xs)
+pub insert-old : (x a : ℕ) (xs : List ℕ) → In x xs → In x (insertOnce a xs)
 insert-old x a [] i = absurd i
 insert-old x a (y ∷ ys) i = pick (ltb a y) (eqb a y) i (insert-old x a ys)
   where
-    pick : (b c : Bool) → (x ≡ y) ⊎ In x ys → (In x ys → In x (insert a ys)) → In x (if b then a ∷ y ∷ ys else (if c then y ∷ ys else y ∷ insert a ys))
+    pick : (b c : Bool) → (x ≡ y) ⊎ In x ys → (In x ys → In x (insertOnce a ys)) → In x (if b then a ∷ y ∷ ys else (if c then y ∷ ys else y ∷ insertOnce a ys))
     pick true c z ih = inr z
     pick false true z ih = z
     pick false false (inl e) ih = inl e
     pick false false (inr z) ih = inr (ih z)
 
-pub insert-new : (a : ℕ) (xs : List ℕ) → In a (insert a xs)
+pub insert-new : (a : ℕ) (xs : List ℕ) → In a (insertOnce a xs)
 insert-new a [] = inl refl
 insert-new a (y ∷ ys) = pick (ltb a y) (eqb a y) refl (insert-new a ys)
   where
-    pick : (b c : Bool) → eqb a y ≡ c → In a (insert a ys) → In a (if b then a ∷ y ∷ ys else (if c then y ∷ ys else y ∷ insert a ys))
+    pick : (b c : Bool) → eqb a y ≡ c → In a (insertOnce a ys) → In a (if b then a ∷ y ∷ ys else (if c then y ∷ ys else y ∷ insertOnce a ys))
     pick true c e ih = inl refl
     pick false true e ih = inl (eqb-true a y e)
     pick false false e ih = inr ih
@@ -42,43 +43,43 @@ insert-new a (y ∷ ys) = pick (ltb a y) (eqb a y) refl (insert-new a ys)
 areas-old : (x : ℕ) (cs : List Cluster) (l : List ℕ) → In x l → In x (areasOf cs l)
 unfolding areasOf
 areas-old x [] l i = i
-areas-old x (c ∷ cs) l i = areas-old x cs (if eqb (area c) 0 then l else insert (area c) l) (pick (eqb (area c) 0))
+areas-old x (c ∷ cs) l i = areas-old x cs (if eqb (area c) 0 then l else insertOnce (area c) l) (pick (eqb (area c) 0))
   where
-    pick : (b : Bool) → In x (if b then l else insert (area c) l)
+    pick : (b : Bool) → In x (if b then l else insertOnce (area c) l)
     pick true = i
     pick false = insert-old x (area c) l i
 
 areas-in : (k : ℕ) (cs : List Cluster) (l : List ℕ) → 0 < area (getD cs k newCluster) → In (area (getD cs k newCluster)) (areasOf cs l)
 unfolding areasOf
 areas-in k [] l p = absurd (omega arith)
-areas-in zero (c ∷ cs) l p = areas-old (area c) cs (if eqb (area c) 0 then l else insert (area c) l) (pick (eqb (area c) 0) refl)
+areas-in zero (c ∷ cs) l p = areas-old (area c) cs (if eqb (area c) 0 then l else insertOnce (area c) l) (pick (eqb (area c) 0) refl)
   where
-    pick : (b : Bool) → eqb (area c) 0 ≡ b → In (area c) (if b then l else insert (area c) l)
+    pick : (b : Bool) → eqb (area c) 0 ≡ b → In (area c) (if b then l else insertOnce (area c) l)
     pick true e = let z : area c ≡ 0 = eqb-true (area c) 0 e in absurd (omega arith)
     pick false e = insert-new (area c) l
-areas-in (suc k) (c ∷ cs) l p = areas-in k cs (if eqb (area c) 0 then l else insert (area c) l) p
+areas-in (suc k) (c ∷ cs) l p = areas-in k cs (if eqb (area c) 0 then l else insertOnce (area c) l) p
 
 pub record Listed (s : State) : Type 0 where
   pub areas : (k : ℕ) → Stands (ledger (s .log)) k → cluster s k .mergedInto ≡ 0 → In (area (cluster s k)) (s .listed)
 
-pub put-listed : (k : ℕ) (s : State) → Listed s → Listed (put k s)
-unfolding put
+pub put-listed : (k : ℕ) (s : State) → Listed s → Listed (putOut k s)
+unfolding putOut
 put-listed k s L = record { areas = L .areas }
 
 module _ {image : List ℕ} {size : ℕ} where
   -- the new area of t is listed
   module _ (a k : ℕ) (s : State) (G : Going image size a k s) (pos : 0 < a) (e : area (cluster s k) ≡ a) (t : ℕ) (N : Near s (label s (getD (cluster s k .pixels) 0 0)) t) where
-    pub merge-lists : merge k t s .listed ≡ insert (area (cluster (merge k t s) t)) (s .listed)
-    unfolding merge withCluster withResidue
-    merge-lists = ap (λ x. insert x (s .listed)) (sym (ap length (merge-changes a k s G pos e t N .t-pixels)))
+    pub merge-lists : mergeClusterInto k t s .listed ≡ insertOnce (area (cluster (mergeClusterInto k t s) t)) (s .listed)
+    unfolding mergeClusterInto withCluster withResidue
+    merge-lists = ap (λ x. insertOnce x (s .listed)) (sym (ap length (merge-changes a k s G pos e t N .t-pixels)))
 
-    pub deepen-lists : (b : Bool) → deepen b k t s .listed ≡ insert (area (cluster (deepen b k t s) t)) (s .listed)
-    unfolding deepen withCluster deeper
-    deepen-lists b = ap (λ x. insert x (s .listed)) (sym (ap length (deepen-changes a k s G pos e t N b .t-pixels)))
+    pub deepen-lists : (b : Bool) → deepenClusterInto b k t s .listed ≡ insertOnce (area (cluster (deepenClusterInto b k t s) t)) (s .listed)
+    unfolding deepenClusterInto withCluster deeper
+    deepen-lists b = ap (λ x. insertOnce x (s .listed)) (sym (ap length (deepen-changes a k s G pos e t N b .t-pixels)))
 
   module _ (a k : ℕ) (s : State) (G : Going image size a k s) (L : Listed s) (pos : 0 < a) (e : area (cluster s k) ≡ a) (t : ℕ) (N : Near s (label s (getD (cluster s k .pixels) 0 0)) t) where
     -- t's new area is listed, and what else stands is as it was
-    moved-listed : {u : State} → Moved k t s u → u .listed ≡ insert (area (cluster u t)) (s .listed) → (Stands (ledger (u .log)) k → cluster u k .mergedInto ≡ 0 → ⊥)
+    moved-listed : {u : State} → Moved k t s u → u .listed ≡ insertOnce (area (cluster u t)) (s .listed) → (Stands (ledger (u .log)) k → cluster u k .mergedInto ≡ 0 → ⊥)
         → ((j : ℕ) → j ≢ k → j ≢ t → Stands (ledger (u .log)) j → Stands (ledger (s .log)) j) → Listed u
     moved-listed {u} M new gone old = record {
       areas = three k t (λ j. Stands (ledger (u .log)) j → cluster u j .mergedInto ≡ 0 → In (area (cluster u j)) (u .listed))
@@ -88,13 +89,13 @@ module _ {image : List ℕ} {size : ℕ} where
           (subst (λ c. In (area c) (s .listed)) (sym (M .other j m n)) (L .areas j (old j m n z) (sym (ap (λ c. c .mergedInto) (M .other j m n)) ∙ r)))));
     }
 
-    pub merge-listed : Listed (merge k t s)
-    unfolding merge
+    pub merge-listed : Listed (mergeClusterInto k t s)
+    unfolding mergeClusterInto
     merge-listed = moved-listed (merge-changes a k s G pos e t N) (merge-lists a k s G pos e t N) (λ z r. plain-down (ledger (s .log)) k t (k≢t a k s G pos e t N) k (z .0) (z .1) .0 refl)
         (λ j m n z. (z .0, subst (λ g. T (g (z .0))) (plain-o (ledger (s .log)) k t j m n) (z .1)))
 
-    pub deepen-listed : (hollow : Bool) → Listed (deepen hollow k t s)
-    unfolding deepen mergedTo
+    pub deepen-listed : (hollow : Bool) → Listed (deepenClusterInto hollow k t s)
+    unfolding deepenClusterInto mergedTo
     deepen-listed hollow = moved-listed (deepen-changes a k s G pos e t N hollow) (deepen-lists a k s G pos e t N hollow)
         (λ z r. N .0 (sym (ap (λ c. c .mergedInto) (deepen-from a k s G pos e t N hollow)) ∙ r))
         (λ j m n z. (z .0, subst (λ g. T (g (z .0))) (deepened-o (ledger (s .log)) k t j n) (z .1)))

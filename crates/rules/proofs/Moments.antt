@@ -11,21 +11,20 @@ use lib.Dec.{T, ltb, lt→ltb}
 use lib.ListN.{length}
 use Rattle.rules.specs.Base.{if_then_else_, times}
 use Rattle.rules.specs.Color.{RunnerConfig, keyingOn}
-use Rattle.rules.specs.State.{State, Event, cluster, label, area, put, merge, deepen, added, plain, deepened}
+use Rattle.rules.specs.State.{State, Event, cluster, label, area, putOut, mergeClusterInto, deepenClusterInto, added, plain, deepened}
 use Rattle.rules.specs.Stage2.{visit, pass, passes, prepareStage2}
 use Rattle.rules.specs.Run.{run, stage1, stage2, dropEmpty}
 use Rattle.rules.specs.Layout.{link}
 use Rattle.rules.specs.Ledger.{Held, ledger}
 use Rattle.rules.specs.Claim.{countOf, Stands}
-use Rattle.rules.specs.Moments.{Trace, begun, noted, notedPass, notedPasses, traced, moments, suffixes, Merges, logs, Each, Newest, Oldest}
+use Rattle.rules.specs.Moments.{Trace, begun, tracedStep, tracedPass, tracedPasses, traced, moments, suffixes, Merges, logs, Every, Newest, Oldest}
 use Rattle.rules.specs.Demand3.{Discarded, Agrees}
-use Rattle.rules.proofs.Owned.{owned}
+use Rattle.rules.specs.Code.Early.{Basic, owned, Early}
 use Rattle.rules.proofs.Facts.{T-dec, eqb-no, countOf-some, countOf-none, T-both, T-and}
 use Rattle.rules.proofs.Forest.{inside-not}
-use Rattle.rules.proofs.Basic.{Basic}
 use Rattle.rules.proofs.Sound.{Sound}
 use Rattle.rules.proofs.Visits.{Going, visit-going, visit-cases, isolated-cases, times-keep, k≢t, next-area, slots-keep, passes-keep}
-use Rattle.rules.proofs.Early.{Early, prepareStage2-going}
+use Rattle.rules.proofs.Early.{prepareStage2-going}
 use Rattle.rules.proofs.Whole.{early, stage2-passes, rests, agrees, Some, AsBefore, merge-some, deepen-some, put-some}
 use Rattle.rules.proofs.Chains.{Chained, listed, put-chained, merge-chained, deepen-chained, prepareStage2-chained}
 use Rattle.rules.proofs.Outputs.{area-countOf, area-pos}
@@ -58,19 +57,21 @@ module _ (o : RunnerConfig) (w height : ℕ) (image : List ℕ) where
 
   pub compared : (a k : ℕ) (s : State) → Going image (w * height) a k s → AsBefore (ledger (stage1 o w height image .log)) s → Chained s → Agrees o w height image (ledger (s .log)) s
   compared a k s G A C = record {
-    placed = λ j p x. (subst (λ m. p < m) (B .width) (B .places j p x), B .slots j p x);
-    counts = counted B;
-    whole = λ i j. by-cases (find (λ p. ledger (s .log) i p && ledger (s .log) j p) (w * height))
-        (λ x. let y = T-both (ledger (s .log) i (x .0)) (ledger (s .log) j (x .0)) (x .2) in inr (agrees S .whole i j (x .0) (y .0) (y .1)))
-        (λ n. inl (λ p x y. n (p, subst (λ m. p < m) (B .width) (B .places i p x), T-and (ledger (s .log) i p) (ledger (s .log) j p) x y)));
-    distinct = agrees S .distinct;
-    labelled = λ p l n. top p (here p (E .covered p l) n);
-    discarded = λ j p d x. let y = A p .1 (j, x) in E .never (y .0) p (y .1) d;
-    lists = B .lists;
     chains = listed s S C;
-    sums = B .sums;
-    residues = agrees S .residues;
-    shade = λ p l n. let x = here p (E .covered p l) n in let y = S .forest .owner (x .0) p (x .1) in (y .0, rests S (y .0) p .0 (y .1), λ j r. one p j (y .0) (rests S j p .1 r) (y .1) (ℕ-discrete j (y .0)));
+    view = record {
+      placed = λ j p x. (subst (λ m. p < m) (B .width) (B .places j p x), B .slots j p x);
+      counts = counted B;
+      whole = λ i j. by-cases (find (λ p. ledger (s .log) i p && ledger (s .log) j p) (w * height))
+          (λ x. let y = T-both (ledger (s .log) i (x .0)) (ledger (s .log) j (x .0)) (x .2) in inr (agrees S .whole i j (x .0) (y .0) (y .1)))
+          (λ n. inl (λ p x y. n (p, subst (λ m. p < m) (B .width) (B .places i p x), T-and (ledger (s .log) i p) (ledger (s .log) j p) x y)));
+      distinct = agrees S .distinct;
+      labelled = λ p l n. top p (here p (E .covered p l) n);
+      discarded = λ j p d x. let y = A p .1 (j, x) in E .never (y .0) p (y .1) d;
+      lists = B .lists;
+      sums = B .sums;
+      residues = agrees S .residues;
+      shade = λ p l n. let x = here p (E .covered p l) n in let y = S .forest .owner (x .0) p (x .1) in (y .0, rests S (y .0) p .0 (y .1), λ j r. one p j (y .0) (rests S j p .1 r) (y .1) (ℕ-discrete j (y .0)));
+    };
   }
     where
       S : Sound image (w * height) (ledger (s .log)) (owned (s .log)) s
@@ -97,19 +98,19 @@ module _ (o : RunnerConfig) (w height : ℕ) (image : List ℕ) where
 
 -- ---- the trace
 
-pub noted-now : (f : ℕ → State → State) (n : ℕ) (t : Trace) → times n (λ k. noted (f k)) t .now ≡ times n f (t .now)
-unfolding noted
-noted-now f zero t = refl
-noted-now f (suc n) t = ap (f n) (noted-now f n t)
+pub tracedStep-now : (f : ℕ → State → State) (n : ℕ) (t : Trace) → times n (λ k. tracedStep (f k)) t .now ≡ times n f (t .now)
+unfolding tracedStep
+tracedStep-now f zero t = refl
+tracedStep-now f (suc n) t = ap (f n) (tracedStep-now f n t)
 
-pub notedPass-now : (o : RunnerConfig) (w h a : ℕ) (t : Trace) → notedPass o w h a t .now ≡ pass o w h a (t .now)
-unfolding notedPass pass
-notedPass-now o w h a t = noted-now (visit o w h a) (length (t .now .clusters)) t
+pub tracedPass-now : (o : RunnerConfig) (w h a : ℕ) (t : Trace) → tracedPass o w h a t .now ≡ pass o w h a (t .now)
+unfolding tracedPass pass
+tracedPass-now o w h a t = tracedStep-now (visit o w h a) (length (t .now .clusters)) t
 
-pub notedPasses-now : (o : RunnerConfig) (w h n : ℕ) (t : Trace) → notedPasses o w h n t .now ≡ passes o w h n (t .now)
-unfolding notedPasses passes
-notedPasses-now o w h zero t = refl
-notedPasses-now o w h (suc n) t = notedPass-now o w h (suc n) (times n (λ a. notedPass o w h (suc a)) t) ∙ ap (pass o w h (suc n)) (notedPasses-now o w h n t)
+pub tracedPasses-now : (o : RunnerConfig) (w h n : ℕ) (t : Trace) → tracedPasses o w h n t .now ≡ passes o w h n (t .now)
+unfolding tracedPasses passes
+tracedPasses-now o w h zero t = refl
+tracedPasses-now o w h (suc n) t = tracedPass-now o w h (suc n) (times n (λ a. tracedPass o w h (suc a)) t) ∙ ap (pass o w h (suc n)) (tracedPasses-now o w h n t)
 
 abbrev pub Shares : State → State → Type 0
 Shares u s = (u .labels ≡ s .labels) × (u .clusters ≡ s .clusters) × (u .log ≡ s .log)
@@ -145,7 +146,7 @@ visit-idle o w h a k s d = rw (eqb-no (area (cluster s k)) a d) refl
 
 -- a visit logs nothing, and then changes neither labels nor clusters, or it logs one merge
 pub visit-logs : (o : RunnerConfig) (w h a k : ℕ) (s : State) → Shares (visit o w h a k s) s ⊎ ((x : Event) × (visit o w h a k s .log ≡ x ∷ s .log) × Merges (x ∷ []))
-unfolding put merge deepen
+unfolding putOut mergeClusterInto deepenClusterInto
 visit-logs o w h a k s =
     visit-cases o w h a k s (λ u. Shares u s ⊎ ((x : Event) × (u .log ≡ x ∷ s .log) × Merges (x ∷ []))) (λ x. inl (refl, refl, refl)) (λ e l. inl (refl, refl, refl))
     (λ e l z. isolated-cases o w h a k s (λ u. Shares u s ⊎ ((x : Event) × (u .log ≡ x ∷ s .log) × Merges (x ∷ []))) (inl (refl, refl, refl)) (inl (refl, refl, refl)))
@@ -156,7 +157,7 @@ merges-more (added p k) es m n = m
 merges-more (plain f t) es m n = n
 merges-more (deepened f t) es m n = n
 
-pub each-map : (P Q : State → Type 0) (ss : List State) → ((s : State) → P s → Q s) → Each P ss → Each Q ss
+pub each-map : (P Q : State → Type 0) (ss : List State) → ((s : State) → P s → Q s) → Every P ss → Every Q ss
 each-map P Q [] f x = tt
 each-map P Q (s ∷ ss) f x = (f s (x .0), each-map P Q ss f (x .1))
 
@@ -172,7 +173,7 @@ module _ (o : RunnerConfig) (w height : ℕ) (image : List ℕ) (P : State → T
   record Tracked (a k : ℕ) (s : State) (ms : List State) : Type 0 where
     going : Going image (w * height) a k s
     kept : P s
-    good : Each (λ u. Between image (w * height) u × P u) ms
+    good : Every (λ u. Between image (w * height) u × P u) ms
     begins : Oldest (λ u. u ≡ prepareStage2 (stage1 o w height image)) ms
     newest : Newest (λ u. Shares s u) ms
     new : List Event
@@ -180,8 +181,8 @@ module _ (o : RunnerConfig) (w height : ℕ) (image : List ℕ) (P : State → T
     logged : s .log ≡ new ++ stage1 o w height image .log
     timed : logs ms ≡ suffixes new (stage1 o w height image .log)
 
-  visit-tracked : (a k : ℕ) → 0 < a → (t : Trace) → Tracked a k (t .now) (t .moments) → Tracked a (suc k) (noted (visit o w height a k) t .now) (noted (visit o w height a k) t .moments)
-  unfolding noted
+  visit-tracked : (a k : ℕ) → 0 < a → (t : Trace) → Tracked a k (t .now) (t .moments) → Tracked a (suc k) (tracedStep (visit o w height a k) t .now) (tracedStep (visit o w height a k) t .moments)
+  unfolding tracedStep
   visit-tracked a k pos t K = go (visit-logs o w height a k s)
     where
       s : State
@@ -226,15 +227,15 @@ module _ (o : RunnerConfig) (w height : ℕ) (image : List ℕ) (P : State → T
           whole : u .log ≡ (e .0 ∷ K .new) ++ stage1 o w height image .log
           whole = e .1 ∙ ap (λ l. e .0 ∷ l) (K .logged)
 
-  pass-tracked : (a : ℕ) (t : Trace) → Tracked (suc a) 0 (t .now) (t .moments) → Tracked (suc (suc a)) 0 (notedPass o w height (suc a) t .now) (notedPass o w height (suc a) t .moments)
-  unfolding notedPass
+  pass-tracked : (a : ℕ) (t : Trace) → Tracked (suc a) 0 (t .now) (t .moments) → Tracked (suc (suc a)) 0 (tracedPass o w height (suc a) t .now) (tracedPass o w height (suc a) t .moments)
+  unfolding tracedPass
   pass-tracked a t K = on end
     where
       u : Trace
-      u = times (length (t .now .clusters)) (λ k. noted (visit o w height (suc a) k)) t
+      u = times (length (t .now .clusters)) (λ k. tracedStep (visit o w height (suc a) k)) t
 
       end : Tracked (suc a) (length (t .now .clusters)) (u .now) (u .moments)
-      end = times-keep (λ k v. Tracked (suc a) k (v .now) (v .moments)) (λ k. noted (visit o w height (suc a) k)) (λ k v H. visit-tracked (suc a) k (omega arith) v H) t K (length (t .now .clusters))
+      end = times-keep (λ k v. Tracked (suc a) k (v .now) (v .moments)) (λ k. tracedStep (visit o w height (suc a) k)) (λ k v H. visit-tracked (suc a) k (omega arith) v H) t K (length (t .now .clusters))
 
       on : {n : ℕ} → Tracked (suc a) n (u .now) (u .moments) → Tracked (suc (suc a)) 0 (u .now) (u .moments)
       on H = record {
@@ -250,8 +251,8 @@ module _ (o : RunnerConfig) (w height : ℕ) (image : List ℕ) (P : State → T
       }
 
   run-tracked : Tracked (suc (w * height)) 0 (traced o w height image .now) (traced o w height image .moments)
-  unfolding traced notedPasses begun prepareStage2
-  run-tracked = times-keep (λ a v. Tracked (suc a) 0 (v .now) (v .moments)) (λ a. notedPass o w height (suc a)) pass-tracked (begun s) start (w * height)
+  unfolding traced tracedPasses begun prepareStage2
+  run-tracked = times-keep (λ a v. Tracked (suc a) 0 (v .now) (v .moments)) (λ a. tracedPass o w height (suc a)) pass-tracked (begun s) start (w * height)
     where
       s : State
       s = prepareStage2 (stage1 o w height image)
@@ -273,13 +274,13 @@ module _ (o : RunnerConfig) (w height : ℕ) (image : List ℕ) (P : State → T
       }
 
   -- at every moment, and at the end of stage 2
-  pub moments-keep : Each (λ u. Between image (w * height) u × P u) (moments o w height image)
+  pub moments-keep : Every (λ u. Between image (w * height) u × P u) (moments o w height image)
   unfolding moments
   moments-keep = run-tracked .good
 
   pub stage2-keep : Going image (w * height) (suc (w * height)) 0 (stage2 o w height (stage1 o w height image)) × P (stage2 o w height (stage1 o w height image))
   unfolding traced begun
-  stage2-keep = subst (λ u. Going image (w * height) (suc (w * height)) 0 u × P u) (notedPasses-now o w height (w * height) (begun (prepareStage2 (stage1 o w height image))) ∙ sym (stage2-passes o w height image)) (run-tracked .going, run-tracked .kept)
+  stage2-keep = subst (λ u. Going image (w * height) (suc (w * height)) 0 u × P u) (tracedPasses-now o w height (w * height) (begun (prepareStage2 (stage1 o w height image))) ∙ sym (stage2-passes o w height image)) (run-tracked .going, run-tracked .kept)
 
 logs-count : (ss : List State) → length (logs ss) ≡ length ss
 logs-count [] = refl
@@ -302,7 +303,7 @@ module _ (o : RunnerConfig) (w height : ℕ) (image : List ℕ) where
       (λ z l t N. (merge-some (ledger (stage1 o w height image .log)) k t s (k≢t a k s G pos e t N) (R .0), merge-chained a k s G (R .1) pos e t N))
       (λ z l t N b. (deepen-some (ledger (stage1 o w height image .log)) b k t s (R .0), deepen-chained a k s G (R .1) pos e t N b))
     where
-      out : Keeps (put k s)
+      out : Keeps (putOut k s)
       out = (put-some (ledger (stage1 o w height image .log)) k s (R .0), put-chained k s (R .1))
 
   pub start-keeps : Keeps (prepareStage2 (stage1 o w height image))
@@ -314,9 +315,9 @@ module _ (o : RunnerConfig) (w height : ℕ) (image : List ℕ) where
 
   traced-now : traced o w height image .now ≡ stage2 o w height (stage1 o w height image)
   unfolding traced begun
-  traced-now = notedPasses-now o w height (w * height) (begun (prepareStage2 (stage1 o w height image))) ∙ sym (stage2-passes o w height image)
+  traced-now = tracedPasses-now o w height (w * height) (begun (prepareStage2 (stage1 o w height image))) ∙ sym (stage2-passes o w height image)
 
-  pub run-always : Each (λ s. Agrees o w height image (ledger (s .log)) s) (moments o w height image)
+  pub run-always : Every (λ s. Agrees o w height image (ledger (s .log)) s) (moments o w height image)
   run-always = each-map (λ u. Between image (w * height) u × Keeps u) (λ s. Agrees o w height image (ledger (s .log)) s) (moments o w height image)
       (λ s x. compared o w height image (x .0 .0) (x .0 .1) s (x .0 .2) (x .1 .0) (x .1 .1)) (moments-keep o w height image Keeps visit-keeps start-keeps)
 
@@ -342,7 +343,8 @@ module _ (o : RunnerConfig) (w height : ℕ) (image : List ℕ) where
   unfolding run dropEmpty link
   run-returned =
       let R = stage2-keep o w height image Keeps visit-keeps start-keeps in
-      compared o w height image (suc (w * height)) 0 (stage2 o w height (stage1 o w height image)) (R .0) (R .1 .0) (R .1 .1)
+      let A = compared o w height image (suc (w * height)) 0 (stage2 o w height (stage1 o w height image)) (R .0) (R .1 .0) (R .1 .1) in
+      record { view = A .view; chains = A .chains }
 
   pub run-width : length (run o w height image .labels) ≡ w * height
   unfolding run dropEmpty

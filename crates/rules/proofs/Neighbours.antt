@@ -10,7 +10,7 @@ use native.Mathlib.Omega.{arith}
 use borrow.Author.Tests.{eqb-false, eqb-true, ltb-false, ltb-true}
 use lib.Dec.{T, eqb, ltb, eqb→eq}
 use lib.ListN.{length, getD}
-use Rattle.rules.specs.Base.{if_then_else_, member, insert, least}
+use Rattle.rules.specs.Base.{if_then_else_, member, insertOnce, least}
 use Rattle.rules.specs.Color.{RunnerConfig, _⊕_}
 use Rattle.rules.specs.Grid.{sides}
 use Rattle.rules.specs.State.{State, cluster, label}
@@ -39,11 +39,11 @@ all-in P [] a x i = absurd i
 all-in P (y ∷ ys) a x (inl e) = subst P (sym e) (a .0)
 all-in P (y ∷ ys) a x (inr i) = all-in P ys (a .1) x i
 
-pub insert-rising : (a : ℕ) (xs : List ℕ) → Rising xs → Rising (insert a xs)
+pub insert-rising : (a : ℕ) (xs : List ℕ) → Rising xs → Rising (insertOnce a xs)
 insert-rising a [] r = (tt, tt)
 insert-rising a (x ∷ xs) r = go (ltb a x) refl (eqb a x) refl (insert-rising a xs (r .1))
   where
-    go : (b : Bool) → ltb a x ≡ b → (c : Bool) → eqb a x ≡ c → Rising (insert a xs) → Rising (if b then a ∷ x ∷ xs else (if c then x ∷ xs else x ∷ insert a xs))
+    go : (b : Bool) → ltb a x ≡ b → (c : Bool) → eqb a x ≡ c → Rising (insertOnce a xs) → Rising (if b then a ∷ x ∷ xs else (if c then x ∷ xs else x ∷ insertOnce a xs))
     go true e c d ih = let l : a < x = ltb-true a x e in ((l, all-map (λ y. x < y) (λ y. a < y) xs (λ y z. omega arith) (r .0)), r)
     go false e true d ih = r
     go false e false d ih = let l : x ≤ a = ltb-false a x e in let n : a ≢ x = eqb-false a x d in (insert-all (λ y. x < y) a xs (omega arith) (r .0), ih)
@@ -120,13 +120,13 @@ module _ (o : RunnerConfig) (w h : ℕ) (s : State) (own : ℕ) where
   labelsAt-in [] found t = (λ i. inl i, λ x. elim x [ inl i ↦ i | inr x ↦ absurd (x .2 .1) ])
   labelsAt-in (off ∷ is) found t = labelsAt-in is found t
   labelsAt-in (some i ∷ is) found t =
-      let r = labelsAt-in is (if eqb (label s i) 0 || eqb (label s i) own then found else insert (label s i) found) t in
+      let r = labelsAt-in is (if eqb (label s i) 0 || eqb (label s i) own then found else insertOnce (label s i) found) t in
       (λ x. to (r .0 x), λ x. r .1 (from x))
     where
       new : List ℕ
-      new = if eqb (label s i) 0 || eqb (label s i) own then found else insert (label s i) found
+      new = if eqb (label s i) 0 || eqb (label s i) own then found else insertOnce (label s i) found
 
-      pick : (b : Bool) → eqb (label s i) 0 ≡ b → (c : Bool) → eqb (label s i) own ≡ c → In t (if b || c then found else insert (label s i) found) → In t found ⊎ Seen (some i ∷ is) t
+      pick : (b : Bool) → eqb (label s i) 0 ≡ b → (c : Bool) → eqb (label s i) own ≡ c → In t (if b || c then found else insertOnce (label s i) found) → In t found ⊎ Seen (some i ∷ is) t
       pick true e c d x = inl x
       pick false e true d x = inl x
       pick false e false d x = elim (insert-from t (label s i) found x) [
@@ -138,14 +138,14 @@ module _ (o : RunnerConfig) (w h : ℕ) (s : State) (own : ℕ) where
       to (inl x) = pick (eqb (label s i) 0) refl (eqb (label s i) own) refl x
       to (inr x) = inr (x .0, x .1, (x .2 .0, inr (x .2 .1), x .2 .2))
 
-      keep : (b : Bool) → In t found → In t (if b then found else insert (label s i) found)
+      keep : (b : Bool) → In t found → In t (if b then found else insertOnce (label s i) found)
       keep true x = x
       keep false x = insert-old t (label s i) found x
 
-      fresh : (b : Bool) → eqb (label s i) 0 ≡ b → (c : Bool) → eqb (label s i) own ≡ c → t ≢ 0 → t ≢ own → label s i ≡ t → In t (if b || c then found else insert (label s i) found)
+      fresh : (b : Bool) → eqb (label s i) 0 ≡ b → (c : Bool) → eqb (label s i) own ≡ c → t ≢ 0 → t ≢ own → label s i ≡ t → In t (if b || c then found else insertOnce (label s i) found)
       fresh true e c d m n z = absurd (m (sym z ∙ eqb-true (label s i) 0 e))
       fresh false e true d m n z = absurd (n (sym z ∙ eqb-true (label s i) own d))
-      fresh false e false d m n z = subst (λ x. In x (insert (label s i) found)) z (insert-new (label s i) found)
+      fresh false e false d m n z = subst (λ x. In x (insertOnce (label s i) found)) z (insert-new (label s i) found)
 
       from : In t found ⊎ Seen (some i ∷ is) t → In t new ⊎ Seen is t
       from (inl x) = inl (keep (eqb (label s i) 0 || eqb (label s i) own) x)
@@ -158,9 +158,9 @@ module _ (o : RunnerConfig) (w h : ℕ) (s : State) (own : ℕ) where
   unfolding labelsAt
   labelsAt-rising [] found r = r
   labelsAt-rising (off ∷ is) found r = labelsAt-rising is found r
-  labelsAt-rising (some i ∷ is) found r = labelsAt-rising is (if eqb (label s i) 0 || eqb (label s i) own then found else insert (label s i) found) (go (eqb (label s i) 0 || eqb (label s i) own))
+  labelsAt-rising (some i ∷ is) found r = labelsAt-rising is (if eqb (label s i) 0 || eqb (label s i) own then found else insertOnce (label s i) found) (go (eqb (label s i) 0 || eqb (label s i) own))
     where
-      go : (b : Bool) → Rising (if b then found else insert (label s i) found)
+      go : (b : Bool) → Rising (if b then found else insertOnce (label s i) found)
       go true = r
       go false = insert-rising (label s i) found r
 

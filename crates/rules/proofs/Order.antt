@@ -13,16 +13,17 @@ use lib.ListN.{length, getD, set, length-set, length-append, length-map, List·g
 use lib.Seq.{getD-set-same, getD-set-other}
 use Rattle.rules.specs.Base.{if_then_else_, times}
 use Rattle.rules.specs.Color.{RunnerConfig, keyingOn}
-use Rattle.rules.specs.State.{State, Event, newCluster, cluster, area, emptied, mergedTo, withResidue, put, merge, deepen, plain, deepened}
-use Rattle.rules.specs.Stage2.{neighbours, decide, visit, pass, passes, prepareStage2}
+use Rattle.rules.specs.State.{State, Event, newCluster, cluster, area, emptied, mergedTo, withResidue, putOut, mergeClusterInto, deepenClusterInto, plain, deepened}
+use Rattle.rules.specs.Stage2.{neighbours, byNeighbours, visit, pass, passes, prepareStage2}
 use Rattle.rules.specs.Run.{stage1, stage2}
 use Rattle.rules.specs.Claim.{countOf}
-use Rattle.rules.specs.Order.{better, pick, target, rekey, Queue, queue, start, visited, turnOf, turn, turns, drained}
+use Rattle.rules.specs.Code.Order.{better, nextPending, target, rekey, Queue, queue, start, visited, turnOf, turn, turns, drained}
 use Rattle.rules.specs.Demand3.{Discarded}
-use Rattle.rules.proofs.Facts.{standing, eqb-no, countOf-le, countOf-lt}
+use Rattle.rules.specs.Code.Early.{standing, Early}
+use Rattle.rules.proofs.Facts.{eqb-no, countOf-le, countOf-lt}
 use Rattle.rules.proofs.Basic.{Moved, three}
 use Rattle.rules.proofs.Visits.{Going, later, visit-cases, isolated-cases, visit-going, times-keep, k≢t, t-slot, target-stands, merge-changes, merge-from, deepen-changes, deepen-from, next-area}
-use Rattle.rules.proofs.Early.{Early, prepareStage2-going}
+use Rattle.rules.proofs.Early.{prepareStage2-going}
 use Rattle.rules.proofs.Whole.{early, stage2-passes}
 use Rattle.rules.proofs.Outputs.{area-pos, area-le}
 use Rattle.rules.proofs.Bounds.{Bounded, rooted, waiting, root-out, wait-out, later-waits, here, not-then, next-waits, merge-fewer, deepen-fewer, stood}
@@ -71,13 +72,13 @@ better-best keys m (some i) x = go (eqb (getD keys m 0) 0) refl (ltb (getD keys 
     go false e false q = (omega (arith, x .0), x .1, λ j l n. old (λ y. ltb-false (getD keys m 0) (getD keys i 0) q) j l n (ℕ-discrete j m))
 
 -- what is picked is the least
-pub pick-best : (keys : List ℕ) → Best keys (length keys) (pick keys)
-unfolding pick
+pub pick-best : (keys : List ℕ) → Best keys (length keys) (nextPending keys)
+unfolding nextPending
 pick-best keys = times-keep (λ m b. Best keys m b) (better keys) (λ m b x. better-best keys m b x) off (λ j l. absurd (omega arith)) (length keys)
 
 -- the least is picked
-pub pick-least : (keys : List ℕ) (k : ℕ) → LeastOf keys (length keys) k → pick keys ≡ some k
-pick-least keys k x = go (pick keys) (pick-best keys)
+pub pick-least : (keys : List ℕ) (k : ℕ) → LeastOf keys (length keys) k → nextPending keys ≡ some k
+pick-least keys k x = go (nextPending keys) (pick-best keys)
   where
     one : (i : ℕ) → LeastOf keys (length keys) i → (getD keys i 0 < getD keys k 0) ⊎ ((getD keys i 0 ≡ getD keys k 0) × (i ≤ k)) → (getD keys k 0 < getD keys i 0) ⊎ ((getD keys k 0 ≡ getD keys i 0) × (k ≤ i)) → i ≡ k
     one i y (inl a) (inl b) = absurd (omega arith)
@@ -89,8 +90,8 @@ pick-least keys k x = go (pick keys) (pick-best keys)
     go off y = absurd (x .1 (y k (x .0)))
     go (some i) y = ap some (one i y (y .2 k (x .0) (x .1)) (x .2 i (y .0) (y .1)))
 
-pub pick-none : (keys : List ℕ) → ((j : ℕ) → getD keys j 0 ≡ 0) → pick keys ≡ off
-pick-none keys z = go (pick keys) (pick-best keys)
+pub pick-none : (keys : List ℕ) → ((j : ℕ) → getD keys j 0 ≡ 0) → nextPending keys ≡ off
+pick-none keys z = go (nextPending keys) (pick-best keys)
   where
     go : (b : Option ℕ) → Best keys (length keys) b → b ≡ off
     go off y = refl
@@ -138,7 +139,7 @@ module _ (a k : ℕ) (s : State) (keys : List ℕ) (Q : Queued a k s keys) (pos 
         go (inr (inl x, y)) = absurd (omega arith)
         go (inr (inr x, y)) = absurd (omega (arith, x .1))
 
-    pub picked-here : pick keys ≡ some k
+    pub picked-here : nextPending keys ≡ some k
     picked-here = pick-least keys k (within k (omega arith), λ z. omega (arith, key-here), λ j l n. go j n (Q .keyed j))
       where
         go : (j : ℕ) → getD keys j 0 ≢ 0 → KeyIs a k (area (cluster s j)) j (getD keys j 0) → (getD keys k 0 < getD keys j 0) ⊎ ((getD keys k 0 ≡ getD keys j 0) × (k ≤ j))
@@ -200,16 +201,16 @@ module _ {image : List ℕ} {size : ℕ} (a k : ℕ) (s : State) (keys : List �
           (subst (λ c. KeyIs a (suc k) (area c) j (getD keys j 0)) (sym (M .other j m n)) (key-later a k (area (cluster s j)) j (getD keys j 0) (λ y. absurd (m y)) (Q .keyed j)))
 
   pub visit-queued : (o : RunnerConfig) (w h : ℕ) → Queued a (suc k) (visit o w h a k s) (rekey k s (visit o w h a k s) keys)
-  unfolding put merge deepen emptied mergedTo
+  unfolding putOut mergeClusterInto deepenClusterInto emptied mergedTo
   visit-queued o w h =
       visit-cases o w h a k s (λ u. Queued a (suc k) u (rekey k s u keys))
-      (λ x. still-queued s refl refl) (λ z l. still-queued (put k s) refl refl)
-      (λ z l n. isolated-cases o w h a k s (λ u. Queued a (suc k) u (rekey k s u keys)) (still-queued (put k s) refl refl) (still-queued s refl refl))
+      (λ x. still-queued s refl refl) (λ z l. still-queued (putOut k s) refl refl)
+      (λ z l n. isolated-cases o w h a k s (λ u. Queued a (suc k) u (rekey k s u keys)) (still-queued (putOut k s) refl refl) (still-queued s refl refl))
       (λ z l t N. let y = target-stands a k s G pos e t N in
-      moved-queued t (merge k t s) (plain k t) (k≢t a k s G pos e t N) (t-slot a k s G pos e t N) (area-pos (G .sound .basic) t (y .0) (y .1))
+      moved-queued t (mergeClusterInto k t s) (plain k t) (k≢t a k s G pos e t N) (t-slot a k s G pos e t N) (area-pos (G .sound .basic) t (y .0) (y .1))
       (merge-changes a k s G pos e t N) refl refl (inl (omega (arith, ap area (merge-from a k s G pos e t N)))))
       (λ z l t N b. let y = target-stands a k s G pos e t N in
-      moved-queued t (deepen b k t s) (deepened k t) (k≢t a k s G pos e t N) (t-slot a k s G pos e t N) (area-pos (G .sound .basic) t (y .0) (y .1))
+      moved-queued t (deepenClusterInto b k t s) (deepened k t) (k≢t a k s G pos e t N) (t-slot a k s G pos e t N) (area-pos (G .sound .basic) t (y .0) (y .1))
       (deepen-changes a k s G pos e t N b) refl refl (inr (ap area (deepen-from a k s G pos e t N b) ∙ e, omega arith)))
 
   -- the turn is that visit
@@ -230,8 +231,8 @@ module _ {image : List ℕ} {size : ℕ} (n a k : ℕ) (s : State) (G : Going im
   still-falls : Falls s
   still-falls = (omega (arith, countOf-lt (waiting a (suc k) s) (waiting a k s) (later-waits a k s) n k fits (here a k s G B pos e fits) (not-then a k s G B pos e fits)), table)
 
-  put-falls : Falls (put k s)
-  unfolding put waiting rooted
+  put-falls : Falls (putOut k s)
+  unfolding putOut waiting rooted
   put-falls = still-falls
 
   visit-falls : (o : RunnerConfig) (w h : ℕ) → Falls (visit o w h a k s)
@@ -266,7 +267,7 @@ module _ (image : List ℕ) (size : ℕ) (o : RunnerConfig) (w h : ℕ) (q : Que
         table = visit-falls n a k s (R .going) pos e fits (R .table) o w h .1;
       }
       go (no d) =
-          subst (λ b. Reached a (suc k) (if b then (if ltb (o .hierarchical) a then put k s else decide o w h a k (neighbours w h s k) s) else s)) (sym (eqb-no (area (cluster s k)) a d))
+          subst (λ b. Reached a (suc k) (if b then (if ltb (o .hierarchical) a then putOut k s else byNeighbours o w h a k (neighbours w h s k) s) else s)) (sym (eqb-no (area (cluster s k)) a d))
           (record {
             going = later (R .going);
             count = R .count;
@@ -324,11 +325,11 @@ none-pending {image} {size} s keys G Q j = go (Q .keyed j)
     go (inr x) = x .1
 
 -- a queue with nothing pending stays
-pub turn-idle : (o : RunnerConfig) (w h : ℕ) (q : Queue) → pick (q .keys) ≡ off → turn o w h q ≡ q
+pub turn-idle : (o : RunnerConfig) (w h : ℕ) (q : Queue) → nextPending (q .keys) ≡ off → turn o w h q ≡ q
 unfolding turn turnOf
 turn-idle o w h q e = ap (λ p. turnOf o w h p q) e
 
-pub turns-idle : (o : RunnerConfig) (w h : ℕ) (q : Queue) (m : ℕ) → pick (turns o w h m q .keys) ≡ off → (n : ℕ) → m ≤ n → turns o w h n q ≡ turns o w h m q
+pub turns-idle : (o : RunnerConfig) (w h : ℕ) (q : Queue) (m : ℕ) → nextPending (turns o w h m q .keys) ≡ off → (n : ℕ) → m ≤ n → turns o w h n q ≡ turns o w h m q
 unfolding turns
 turns-idle o w h q m e zero l = ap (λ x. turns o w h x q) (let z : 0 ≡ m = omega arith in z)
 turns-idle o w h q m e (suc n) l = by-cases (ℕ-discrete (suc n) m)
@@ -371,8 +372,8 @@ module _ (o : RunnerConfig) (w h : ℕ) (image : List ℕ) where
       E : Early image (w * h) (Discarded o image) (T (keyingOn o)) (w * h) (stage1 o w h image)
       E = early o w h image
 
-  idle-at : pick (turns o w h (reached .count) (start (prepareStage2 (stage1 o w h image))) .keys) ≡ off
-  idle-at = ap (λ q. pick (q .keys)) (reached .there) ∙ pick-none (reached .keys) (none-pending (stage2 o w h (stage1 o w h image)) (reached .keys) (reached .going) (reached .queued))
+  idle-at : nextPending (turns o w h (reached .count) (start (prepareStage2 (stage1 o w h image))) .keys) ≡ off
+  idle-at = ap (λ q. nextPending (q .keys)) (reached .there) ∙ pick-none (reached .keys) (none-pending (stage2 o w h (stage1 o w h image)) (reached .keys) (reached .going) (reached .queued))
 
   -- stage 2 is repeated picking
   pub drained-stage2 : drained o w h (prepareStage2 (stage1 o w h image)) ≡ stage2 o w h (stage1 o w h image)
@@ -380,16 +381,16 @@ module _ (o : RunnerConfig) (w h : ℕ) (image : List ℕ) where
   drained-stage2 = ap (λ q. q .now) (turns-idle o w h (start (prepareStage2 (stage1 o w h image))) (reached .count) idle-at (2 * (w * h)) (omega (arith, reached .total)) ∙ reached .there)
 
   -- whenever no slot is pending, stage 2 is over
-  pub turns-end : (m : ℕ) → pick (turns o w h m (start (prepareStage2 (stage1 o w h image))) .keys) ≡ off → turns o w h m (start (prepareStage2 (stage1 o w h image))) .now ≡ stage2 o w h (stage1 o w h image)
+  pub turns-end : (m : ℕ) → nextPending (turns o w h m (start (prepareStage2 (stage1 o w h image))) .keys) ≡ off → turns o w h m (start (prepareStage2 (stage1 o w h image))) .now ≡ stage2 o w h (stage1 o w h image)
   turns-end m e = by-cases (decLt m (reached .count))
       (λ l. ap (λ q. q .now) (sym (turns-idle o w h (start (prepareStage2 (stage1 o w h image))) m e (reached .count) (omega arith)) ∙ reached .there))
       (λ l. ap (λ q. q .now) (turns-idle o w h (start (prepareStage2 (stage1 o w h image))) (reached .count) idle-at m (omega arith) ∙ reached .there))
 
   -- and that is so after at most 2 × w × h turns
-  pub turns-few : (m k : ℕ) → pick (turns o w h m (start (prepareStage2 (stage1 o w h image))) .keys) ≡ some k → m < 2 * (w * h)
+  pub turns-few : (m k : ℕ) → nextPending (turns o w h m (start (prepareStage2 (stage1 o w h image))) .keys) ≡ some k → m < 2 * (w * h)
   turns-few m k e = by-cases (decLt m (reached .count))
       (λ l. omega (arith, reached .total))
-      (λ l. let idle = ap (λ q. pick (q .keys)) (turns-idle o w h (start (prepareStage2 (stage1 o w h image))) (reached .count) idle-at m (omega arith)) ∙ idle-at in
+      (λ l. let idle = ap (λ q. nextPending (q .keys)) (turns-idle o w h (start (prepareStage2 (stage1 o w h image))) (reached .count) idle-at m (omega arith)) ∙ idle-at in
       let z : _≡_ {A = ℕ} 0 1 = cc (idle, e) in absurd (omega arith))
 
 -- ---- what holds before every turn
@@ -417,7 +418,7 @@ done-on a k b m x j (inr d) (inl e) = inl (omega arith)
 done-on a k b m x j (inr d) (inr e) = inr (omega arith, omega arith)
 
 module _ {image : List ℕ} {size : ℕ} where
-  pub turning-picked : (q : Queue) → Turning image size q → (k : ℕ) → pick (q .keys) ≡ some k → Picked image size q k
+  pub turning-picked : (q : Queue) → Turning image size q → (k : ℕ) → nextPending (q .keys) ≡ some k → Picked image size q k
   turning-picked q R k e = go (R .queued .keyed k)
     where
       L : LeastOf (q .keys) (length (q .keys)) k
@@ -460,9 +461,9 @@ module _ {image : List ℕ} {size : ℕ} where
     pub turn-keep {ℓ} : (P : State → Type ℓ) → ((a k : ℕ) (s : State) → Going image size a k s → 0 < a → area (cluster s k) ≡ a → P s → P (visit o w h a k s))
         → (q : Queue) → Turning image size q × P (q .now) → Turning image size (turn o w h q) × P (turn o w h q .now)
     unfolding turn turnOf visited
-    turn-keep P step q R = go (pick (q .keys)) refl
+    turn-keep P step q R = go (nextPending (q .keys)) refl
       where
-        go : (b : Option ℕ) → pick (q .keys) ≡ b → Turning image size (turnOf o w h b q) × P (turnOf o w h b q .now)
+        go : (b : Option ℕ) → nextPending (q .keys) ≡ b → Turning image size (turnOf o w h b q) × P (turnOf o w h b q .now)
         go off e = R
         go (some k) e =
             let X = turning-picked q (R .0) k e in

@@ -8,16 +8,16 @@ use native.Mathlib.Decide.{ℕ-discrete}
 use native.Mathlib.Omega.{arith}
 use lib.Dec.{T, eqb, leb, le→leb}
 use lib.ListN.{length, getD, length-append}
-use Rattle.rules.specs.Base.{if_then_else_, noneAbove, times, insert, keep}
+use Rattle.rules.specs.Base.{if_then_else_, noneAbove, times, insertOnce, keep}
 use Rattle.rules.specs.Color.{RunnerConfig, discards}
-use Rattle.rules.specs.State.{State, Cluster, newCluster, cluster, label, area, emptied, withCluster, withResidue, mergedTo, deeper, put, merge, deepen, plain, deepened}
+use Rattle.rules.specs.State.{State, Cluster, newCluster, cluster, label, area, emptied, withCluster, withResidue, mergedTo, deeper, putOut, mergeClusterInto, deepenClusterInto, plain, deepened}
 use Rattle.rules.specs.Stage2.{areasOf, neighbours, isolated, visit, pass, passes}
 use Rattle.rules.specs.Ledger.{Held, enter, ledger}
 use Rattle.rules.specs.Claim.{bit, occurs, countOf, Stands}
-use Rattle.rules.proofs.Owned.{owned}
+use Rattle.rules.specs.Code.Early.{Basic, owned}
 use Rattle.rules.proofs.Facts.{is-true, T-dec, T-bit, eqb-yes, eqb-no, countOf-one, countOf-lt, occurs-append, countOf-bound}
 use Rattle.rules.proofs.Forest.{Inside, inside-not}
-use Rattle.rules.proofs.Basic.{Basic, Moved, three, lab-from, lab-other, plain-down, plain-o, deepened-o, some-held, held-some}
+use Rattle.rules.proofs.Basic.{Moved, three, lab-from, lab-other, plain-down, plain-o, deepened-o, some-held, held-some}
 use Rattle.rules.proofs.Visits.{Going, pass-going, All, insert-all, Near, neighbours-near, visit-cases, visit-going, times-keep}
 use Rattle.rules.proofs.Visits.{stands, root, mine, target-stands, target-root, k≢t, merge-going, deepen-going, merge-changes, deepen-changes, deepen-from}
 use Rattle.rules.proofs.Painting.{First}
@@ -218,8 +218,8 @@ module _ {image : List ℕ} {o : RunnerConfig} {size n : ℕ} where
               absurd (inside-not (λ a b. T (ledger (s .log) a b)) (w .0) x (G .sound .forest .own-inner (w .0) x p (w .1) t d)
               (subst (λ m. Inside (λ a b. T (ledger (s .log) a b)) x m) l (G .sound .forest .under-top x p t (λ e. d (sym (e ∙ l))))))
 
-  put-shows : (a k : ℕ) (s : State) → Going image size a k s → Shows o size n a k s → 0 < a → area (cluster s k) ≡ a → Over o size a s k → Shows o size n a (suc k) (put k s)
-  unfolding put
+  put-shows : (a k : ℕ) (s : State) → Going image size a k s → Shows o size n a k s → 0 < a → area (cluster s k) ≡ a → Over o size a s k → Shows o size n a (suc k) (putOut k s)
+  unfolding putOut
   put-shows a k s G W pos e₀ v = record {
     inner = λ j z r. in-left j (s .outputs) (k ∷ []) (W .inner j z r);
     outer = λ j z r u. out j z r u (ℕ-discrete j k);
@@ -301,17 +301,17 @@ module _ {image : List ℕ} {o : RunnerConfig} {size n : ℕ} where
           (λ x. N .0 (sym (lab-from (G .sound .basic) k t M p x) ∙ z))
           (λ x. W .lit p l (sym (lab-other (G .sound .basic) k t M p x) ∙ z))
 
-    M₁ : Moved k t s (merge k t s)
+    M₁ : Moved k t s (mergeClusterInto k t s)
     M₁ = merge-changes a k s G pos e t N
 
-    merge-shows : Shows o size n a (suc k) (merge k t s)
-    unfolding merge emptied withCluster withResidue
+    merge-shows : Shows o size n a (suc k) (mergeClusterInto k t s)
+    unfolding mergeClusterInto emptied withCluster withResidue
     merge-shows = record {
-      inner = three k t (λ j. Stands h′ j → cluster (merge k t s) j .mergedInto ≢ 0 → In j (s .outputs))
+      inner = three k t (λ j. Stands h′ j → cluster (mergeClusterInto k t s) j .mergedInto ≢ 0 → In j (s .outputs))
           (λ z r. absurd (plain-down h k t ne k (z .0) (z .1) .0 refl))
           (λ z r. absurd (r (M₁ .t-merged ∙ t-root)))
           (λ j u v z r. W .inner j (old j u v z) (λ y. r (ap (λ c. c .mergedInto) (M₁ .other j u v) ∙ y)));
-      outer = three k t (λ j. Stands h′ j → cluster (merge k t s) j .mergedInto ≡ 0 → Due a (suc k) (merge k t s) j → In j (s .outputs))
+      outer = three k t (λ j. Stands h′ j → cluster (mergeClusterInto k t s) j .mergedInto ≡ 0 → Due a (suc k) (mergeClusterInto k t s) j → In j (s .outputs))
           (λ z r d. absurd (plain-down h k t ne k (z .0) (z .1) .0 refl))
           (λ z r d. absurd (t-not-due M₁ d))
           (λ j u v z r d. W .outer j (old j u v z) (sym (ap (λ c. c .mergedInto) (M₁ .other j u v)) ∙ r) (other-due M₁ j u v d));
@@ -336,8 +336,8 @@ module _ {image : List ℕ} {o : RunnerConfig} {size n : ℕ} where
         old : (j : ℕ) → j ≢ k → j ≢ t → Stands h′ j → Stands h j
         old j u v z = (z .0, subst (λ g. T (g (z .0))) (plain-o h k t j u v) (z .1))
 
-    deepen-shows : (hollow : Bool) → Shows o size n a (suc k) (deepen hollow k t s)
-    unfolding deepen mergedTo withCluster deeper
+    deepen-shows : (hollow : Bool) → Shows o size n a (suc k) (deepenClusterInto hollow k t s)
+    unfolding deepenClusterInto mergedTo withCluster deeper
     deepen-shows hollow = record {
       inner = three k t (λ j. Stands h′ j → cluster s′ j .mergedInto ≢ 0 → In j (s .outputs ++ (k ∷ [])))
           (λ z r. in-last k (s .outputs))
@@ -363,7 +363,7 @@ module _ {image : List ℕ} {o : RunnerConfig} {size n : ℕ} where
         h′ = enter (deepened k t) (ledger (s .log))
 
         s′ : State
-        s′ = deepen hollow k t s
+        s′ = deepenClusterInto hollow k t s
 
         M : Moved k t s s′
         M = deepen-changes a k s G pos e t N hollow
@@ -393,7 +393,7 @@ module _ {image : List ℕ} (o : RunnerConfig) (w h : ℕ) {n : ℕ} where
     isolated-shows : area (cluster s k) ≡ a → neighbours w h s k ≡ [] → Shows o (w * h) n a (suc k) (isolated o a k s)
     unfolding isolated
     isolated-shows e none =
-        subst (λ b. Shows o (w * h) n a (suc k) (if b || discards o then put k s else s))
+        subst (λ b. Shows o (w * h) n a (suc k) (if b || discards o then putOut k s else s))
         (sym (none-above o w h a (w * h) (s .listed) (W .bounds) (omega (arith, full)))) (put-shows a k s G W pos e (inr whole))
       where
         B : Basic image (w * h) (ledger (s .log)) s
@@ -475,9 +475,9 @@ module _ {image : List ℕ} (o : RunnerConfig) (w h : ℕ) {n : ℕ} where
 pub areas-le : (size : ℕ) (cs : List Cluster) (l : List ℕ) → ((k : ℕ) → area (getD cs k newCluster) ≤ size) → All (λ x. x ≤ size) l → All (λ x. x ≤ size) (areasOf cs l)
 unfolding areasOf
 areas-le size [] l b a = a
-areas-le size (c ∷ cs) l b a = areas-le size cs (if eqb (area c) 0 then l else insert (area c) l) (λ k. b (suc k)) (pick (eqb (area c) 0))
+areas-le size (c ∷ cs) l b a = areas-le size cs (if eqb (area c) 0 then l else insertOnce (area c) l) (λ k. b (suc k)) (pick (eqb (area c) 0))
   where
-    pick : (q : Bool) → All (λ x. x ≤ size) (if q then l else insert (area c) l)
+    pick : (q : Bool) → All (λ x. x ≤ size) (if q then l else insertOnce (area c) l)
     pick true = a
     pick false = insert-all (λ x. x ≤ size) (area c) l (b 0) a
 

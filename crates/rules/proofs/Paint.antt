@@ -13,12 +13,13 @@ use Rattle.rules.specs.Base.{if_then_else_, each, eachBack, timesBack}
 use Rattle.rules.specs.Color.{RunnerConfig, ColorSum, average, hasAverage}
 use Rattle.rules.specs.State.{State, cluster}
 use Rattle.rules.specs.Run.{run}
-use Rattle.rules.specs.Layout.{slotWidth, firstOf, link, walk, sumNumbers, slot}
+use Rattle.rules.specs.Layout.{slotWidth, firstOf, link, walk, sumNumbers, slot, firstPixelPlace, pixelCountPlace}
 use Rattle.rules.specs.Picture.{paintPixel, paintCluster, paint}
 use Rattle.rules.specs.Ledger.{Held, ledger}
 use Rattle.rules.specs.Claim.{occurs, bit}
-use Rattle.rules.specs.Ranges.{Below}
-use Rattle.rules.specs.Paint.{reads, Painted, slotNumber, fiveFrom, sumOf, residueOf, pixelsOf, entryAnswer, entriesAnswer, paintSlot, paintEntries, painting, Lies}
+use Rattle.rules.specs.Code.Ranges.{AllBelow}
+use Rattle.rules.specs.Paint.{reads, Painted, slotNumber, fiveFrom, slotSum, slotResidue, slotPixels, entryAnswer, entriesAnswer, paintSlot, paintEntries, painting}
+use Rattle.rules.specs.Code.InBuffers.{InBuffers}
 use Rattle.rules.specs.Demand3.{Agrees}
 use Rattle.rules.proofs.Facts.{eqb-no, eqb-yes, bit-T, T-and, is-true}
 use Rattle.rules.proofs.Outputs.{In}
@@ -48,7 +49,7 @@ getD-in (x ∷ xs) (suc i) l = inr (getD-in xs i (omega arith))
 -- ---- a list along the links
 
 module _ (size : ℕ) (s : State) (ls : List ℕ) (same : (p : ℕ) → p < size → getD ls p 0 ≡ link s p) where
-  pub reads-walk : (c v : ℕ) → length (walk (link s) v c) ≡ c → Below size (walk (link s) v c) → T (reads size ls v c) × (walk (λ p. getD ls p 0) v c ≡ walk (link s) v c)
+  pub reads-walk : (c v : ℕ) → length (walk (link s) v c) ≡ c → AllBelow size (walk (link s) v c) → T (reads size ls v c) × (walk (λ p. getD ls p 0) v c ≡ walk (link s) v c)
   unfolding walk
   reads-walk zero v e b = (tt, refl)
   reads-walk (suc c) zero e b = absurd (omega arith)
@@ -73,43 +74,43 @@ chained {held} s A k = go (cluster s k .pixels) refl
   where
     go : (ps : List ℕ) → cluster s k .pixels ≡ ps → walk (link s) (firstOf ps) (length ps) ≡ ps
     go [] e = refl
-    go (p ∷ ps) e = rw e at (A .chains k (p, bit-T (held k p) (λ y. omega (arith, ap (occurs p) e, A .lists k p, ap bit (eqb-yes p p refl)))))
+    go (p ∷ ps) e = rw e at (A .chains k (p, bit-T (held k p) (λ y. omega (arith, ap (occurs p) e, A .view .lists k p, ap bit (eqb-yes p p refl)))))
 
-module _ {o : RunnerConfig} {w h : ℕ} {image : List ℕ} {held : Held} {n m : ℕ} {ls tb os : List ℕ} (s : State) (A : Agrees o w h image held s) (L : Lies (w * h) s n m ls tb os) (k : ℕ) (l : k < n) where
+module _ {o : RunnerConfig} {w h : ℕ} {image : List ℕ} {held : Held} {n m : ℕ} {ls tb os : List ℕ} (s : State) (A : Agrees o w h image held s) (L : InBuffers (w * h) s n m ls tb os) (k : ℕ) (l : k < n) where
   number : (f : ℕ) → f < slotWidth → slotNumber tb k f ≡ getD (slot s k) f 0
   unfolding slotNumber
   number f b = L .numbers k f l b
 
-  first : slotNumber tb k 0 ≡ firstOf (cluster s k .pixels)
+  first : slotNumber tb k firstPixelPlace ≡ firstOf (cluster s k .pixels)
   unfolding slot
   first = number 0 (omega arith)
 
-  count : slotNumber tb k 1 ≡ length (cluster s k .pixels)
+  count : slotNumber tb k pixelCountPlace ≡ length (cluster s k .pixels)
   unfolding slot
   count = number 1 (omega arith)
 
-  pub slot-sum : sumOf tb k ≡ cluster s k .sum
+  pub slot-sum : slotSum tb k ≡ cluster s k .sum
   unfolding fiveFrom slot sumNumbers
   slot-sum = λ j. record { r = number 6 (omega arith) j; g = number 7 (omega arith) j; b = number 8 (omega arith) j; a = number 9 (omega arith) j; count = number 10 (omega arith) j }
 
-  pub slot-residue : residueOf tb k ≡ cluster s k .residue
+  pub slot-residue : slotResidue tb k ≡ cluster s k .residue
   unfolding fiveFrom slot sumNumbers
   slot-residue = λ j. record { r = number 11 (omega arith) j; g = number 12 (omega arith) j; b = number 13 (omega arith) j; a = number 14 (omega arith) j; count = number 15 (omega arith) j }
 
-  pub slot-pixels : T (reads (w * h) ls (slotNumber tb k 0) (slotNumber tb k 1)) × (pixelsOf ls tb k ≡ cluster s k .pixels)
-  unfolding pixelsOf
+  pub slot-pixels : T (reads (w * h) ls (slotNumber tb k firstPixelPlace) (slotNumber tb k pixelCountPlace)) × (slotPixels ls tb k ≡ cluster s k .pixels)
+  unfolding slotPixels
   slot-pixels =
       let c = chained s A k in
-      let r = reads-walk (w * h) s ls (L .linked) (length (cluster s k .pixels)) (firstOf (cluster s k .pixels)) (ap length c) (subst (Below (w * h)) (sym c) (pixels-below s A k)) in
+      let r = reads-walk (w * h) s ls (L .linked) (length (cluster s k .pixels)) (firstOf (cluster s k .pixels)) (ap length c) (subst (AllBelow (w * h)) (sym c) (pixels-below s A k)) in
       rw (first, count) (r .0, r .1 ∙ c)
 
   pub entry-passes : Paintable (w * h) n (cluster s k) k → entryAnswer (w * h) n ls tb k ≡ 0
   unfolding entryAnswer
   entry-passes P = rw (
     lt-ltb k n l,
-    is-true (hasAverage (residueOf tb k)) (subst (λ x. T (hasAverage x)) (sym slot-residue) (has-average (cluster s k .residue) (P .some) (P .r) (P .g) (P .b) (P .a))),
-    le-leb (slotNumber tb k 1) (w * h) (omega (arith, count, P .pixels)),
-    is-true (reads (w * h) ls (slotNumber tb k 0) (slotNumber tb k 1)) (slot-pixels .0),
+    is-true (hasAverage (slotResidue tb k)) (subst (λ x. T (hasAverage x)) (sym slot-residue) (has-average (cluster s k .residue) (P .some) (P .r) (P .g) (P .b) (P .a))),
+    le-leb (slotNumber tb k pixelCountPlace) (w * h) (omega (arith, count, P .pixels)),
+    is-true (reads (w * h) ls (slotNumber tb k firstPixelPlace) (slotNumber tb k pixelCountPlace)) (slot-pixels .0),
   )
 
   pub entry-paints : (picture : List ℕ) → paintSlot ls tb k picture ≡ paintCluster s k picture
@@ -148,7 +149,7 @@ module _ (size n : ℕ) (ls tb os : List ℕ) where
 -- ---- a run
 
 module _ (image : List ℕ) (bytes : (i : ℕ) → getD image i 0 ≤ 255) (o : RunnerConfig) (w h : ℕ) where
-  pub run-painting : (n m : ℕ) (ls tb os given : List ℕ) → Lies (w * h) (run o w h image) n m ls tb os
+  pub run-painting : (n m : ℕ) (ls tb os given : List ℕ) → InBuffers (w * h) (run o w h image) n m ls tb os
       → painting (w * h) n m ls tb os given ≡ record { answer = 0; picture = paint (w * h) (run o w h image) }
   unfolding painting paintEntries paint
   run-painting n m ls tb os given L = subst (λ a. whole a ≡ record { answer = 0; picture = paint (w * h) (run o w h image) }) (sym zero-all) (λ i. record { answer = 0; picture = same i })

@@ -9,7 +9,7 @@ use native.Mathlib.Omega.{arith}
 use lib.Dec.{T, eqb, ltb, lt→ltb, ltb→lt}
 use lib.ListN.{length, getD}
 use Rattle.rules.specs.Base.{if_then_else_, keep}
-use Rattle.rules.specs.Color.{RunnerConfig, ColorSum, keyingOn, pixel, average, one, _⊕_}
+use Rattle.rules.specs.Color.{RunnerConfig, ColorSum, keyingOn, pixel, average, sumOfOne, _⊕_}
 use Rattle.rules.specs.State.{Cluster, State, cluster, label, withResidue}
 use Rattle.rules.specs.Stage2.{prepareStage2}
 use Rattle.rules.specs.Picture.{paint}
@@ -17,12 +17,11 @@ use Rattle.rules.specs.Run.{run, stage1, stage2, dropEmpty}
 use Rattle.rules.specs.Ledger.{ledger}
 use Rattle.rules.specs.Demand3.{Discarded, stateView, Shown}
 use Rattle.rules.specs.Claim.{bit, occurs, tally, countOf, Stands, Smallest}
-use Rattle.rules.proofs.Owned.{owned}
+use Rattle.rules.specs.Code.Early.{Basic, owned, Early}
 use Rattle.rules.proofs.Facts.{is-true, countOf-lt, countOf-some, countOf-none}
-use Rattle.rules.proofs.Basic.{Basic}
 use Rattle.rules.proofs.Sound.{Sound}
 use Rattle.rules.proofs.Visits.{Going}
-use Rattle.rules.proofs.Early.{Early, prepareStage2-going, settled}
+use Rattle.rules.proofs.Early.{prepareStage2-going, settled}
 use Rattle.rules.proofs.Whole.{early, stage2-passes, going, fewer}
 use Rattle.rules.proofs.Painting.{First, paint-first}
 use Rattle.rules.proofs.Outputs.{Shows, In, passes-shows, all-out, areas-le, area-le, area-pos, area-countOf, first-find, first-holds, first-keep, in-keep}
@@ -38,11 +37,11 @@ pub record Paintable (size n : ℕ) (c : Cluster) (k : ℕ) : Type 0 where
   pub pixels : length (c .pixels) ≤ size
 
 pub tally-count : (image : List ℕ) (f : ℕ → Bool) (n : ℕ) → tally image f n .count ≡ countOf f n
-unfolding tally countOf one _⊕_
+unfolding tally countOf sumOfOne _⊕_
 tally-count image f zero = refl
 tally-count image f (suc n) = pick (f n) (tally-count image f n)
   where
-    pick : (b : Bool) → tally image f n .count ≡ countOf f n → (if b then tally image f n ⊕ one (pixel image n) else tally image f n) .count ≡ bit b + countOf f n
+    pick : (b : Bool) → tally image f n .count ≡ countOf f n → (if b then tally image f n ⊕ sumOfOne (pixel image n) else tally image f n) .count ≡ bit b + countOf f n
     pick true e = omega arith
     pick false e = omega arith
 
@@ -123,7 +122,7 @@ run-pictured o w h image off = show
 
 module _ (image : List ℕ) (bytes : (i : ℕ) → getD image i 0 ≤ 255) where
   pub tally-bytes : (f : ℕ → Bool) (n : ℕ) → (tally image f n .r ≤ 255 * countOf f n) × (tally image f n .g ≤ 255 * countOf f n) × (tally image f n .b ≤ 255 * countOf f n) × (tally image f n .a ≤ 255 * countOf f n)
-  unfolding tally countOf one _⊕_ pixel
+  unfolding tally countOf sumOfOne _⊕_ pixel
   tally-bytes f zero = omega arith
   tally-bytes f (suc n) = pick (f n) (tally-bytes f n)
     where
@@ -131,7 +130,7 @@ module _ (image : List ℕ) (bytes : (i : ℕ) → getD image i 0 ≤ 255) where
       t = tally image f n
 
       u : Bool → ColorSum
-      u b = if b then tally image f n ⊕ one (pixel image n) else tally image f n
+      u b = if b then tally image f n ⊕ sumOfOne (pixel image n) else tally image f n
 
       pick : (b : Bool) → (t .r ≤ 255 * countOf f n) × (t .g ≤ 255 * countOf f n) × (t .b ≤ 255 * countOf f n) × (t .a ≤ 255 * countOf f n)
           → (u b .r ≤ 255 * (bit b + countOf f n)) × (u b .g ≤ 255 * (bit b + countOf f n)) × (u b .b ≤ 255 * (bit b + countOf f n)) × (u b .a ≤ 255 * (bit b + countOf f n))

@@ -10,24 +10,23 @@ use borrow.Author.Tests.{le-ltb}
 use lib.Dec.{T, eqb, ltb, eqb→eq}
 use lib.ListN.{length, getD, length-append, length-map}
 use Rattle.rules.specs.Base.{if_then_else_, keep}
-use Rattle.rules.specs.Color.{RunnerConfig, ColorSum, one, _⊕_, pixel, keyingOn}
-use Rattle.rules.specs.State.{State, Cluster, cluster, label, area, emptied, withCluster, mergedTo, deeper, withResidue, put, merge, deepen}
+use Rattle.rules.specs.Color.{RunnerConfig, ColorSum, sumOfOne, _⊕_, pixel, keyingOn}
+use Rattle.rules.specs.State.{State, Cluster, cluster, label, area, emptied, withCluster, mergedTo, deeper, withResidue, putOut, mergeClusterInto, deepenClusterInto}
 use Rattle.rules.specs.Stage2.{visit, prepareStage2}
 use Rattle.rules.specs.Run.{stage1, stage2, run, dropEmpty}
 use Rattle.rules.specs.Layout.{after, firstOf, link}
 use Rattle.rules.specs.Refusals.{largestTotal, sumAnswer}
 use Rattle.rules.specs.Ledger.{Held, ledger}
 use Rattle.rules.specs.Claim.{bit, occurs, tally, countOf, Stands}
-use Rattle.rules.specs.Moments.{moments, Each}
-use Rattle.rules.specs.Order.{start, turns}
-use Rattle.rules.specs.Ranges.{Fits, OnImage, Below, Ranged}
+use Rattle.rules.specs.Moments.{moments, Every}
+use Rattle.rules.specs.Code.Order.{start, turns}
+use Rattle.rules.specs.Code.Ranges.{Fits, OnImage, AllBelow, Ranged}
 use Rattle.rules.specs.Demand3.{Discarded, Agrees}
-use Rattle.rules.proofs.Owned.{owned}
-use Rattle.rules.proofs.Facts.{standing, bit-T, eqb-yes, countOf-le, tally-or, tally-one, countOf-bound}
-use Rattle.rules.proofs.Basic.{Basic, Moved, plain-to, plain-up, some-held, moved-every}
+use Rattle.rules.proofs.Facts.{bit-T, eqb-yes, countOf-le, tally-or, tally-one, countOf-bound}
+use Rattle.rules.proofs.Basic.{Moved, plain-to, plain-up, some-held, moved-every}
 use Rattle.rules.proofs.Sound.{Sound}
 use Rattle.rules.proofs.Visits.{Going, Near, visit-cases, isolated-cases, stands, k≢t, t-slot, target-stands, merge-going, merge-changes, deepen-changes, merge-from, deepen-from, merge-to, deepen-to}
-use Rattle.rules.proofs.Early.{Early, settled, flats-apart}
+use Rattle.rules.proofs.Early.{settled, flats-apart}
 use Rattle.rules.proofs.Whole.{early}
 use Rattle.rules.proofs.Outputs.{area-le}
 use Rattle.rules.proofs.Pictures.{tally-count, tally-bytes}
@@ -35,27 +34,29 @@ use Rattle.rules.proofs.Bounds.{Bounded, rooted, waiting, root-out, sto
 use Rattle.rules.proofs.Moments.{Between, moments-keep, stage2-keep, each-map}
 use Rattle.rules.proofs.Order.{turns-keep, start-turning}
 use Rattle.rules.proofs.Slots.{stage1-slots, both-rects, no-rect}
+use Rattle.rules.specs.Code.Bounds.{capacity}
+use Rattle.rules.specs.Code.Early.{Basic, owned, standing, Early}
 
 -- ---- lists
 
-below-snoc : (n k : ℕ) (xs : List ℕ) → Below n xs → k < n → Below n (xs ++ (k ∷ []))
+below-snoc : (n k : ℕ) (xs : List ℕ) → AllBelow n xs → k < n → AllBelow n (xs ++ (k ∷ []))
 below-snoc n k [] b l = (l, tt)
 below-snoc n k (x ∷ xs) b l = (b .0, below-snoc n k xs (b .1) l)
 
-below-keep : (n : ℕ) (f : ℕ → Bool) (xs : List ℕ) → Below n xs → Below n (keep f xs)
+below-keep : (n : ℕ) (f : ℕ → Bool) (xs : List ℕ) → AllBelow n xs → AllBelow n (keep f xs)
 below-keep n f [] b = tt
 below-keep n f (x ∷ xs) b = go (f x) (below-keep n f xs (b .1))
   where
-    go : (c : Bool) → Below n (keep f xs) → Below n (if c then x ∷ keep f xs else keep f xs)
+    go : (c : Bool) → AllBelow n (keep f xs) → AllBelow n (if c then x ∷ keep f xs else keep f xs)
     go true r = (b .0, r)
     go false r = r
 
-begins-le : (n : ℕ) (xs : List ℕ) → Below n xs → firstOf xs ≤ n
+begins-le : (n : ℕ) (xs : List ℕ) → AllBelow n xs → firstOf xs ≤ n
 unfolding firstOf
 begins-le n [] b = omega arith
 begins-le n (x ∷ xs) b = b .0
 
-after-le : (n p : ℕ) (xs : List ℕ) → Below n xs → after p xs ≤ n
+after-le : (n p : ℕ) (xs : List ℕ) → AllBelow n xs → after p xs ≤ n
 unfolding after
 after-le n p [] b = omega arith
 after-le n p (x ∷ []) b = omega arith
@@ -65,12 +66,12 @@ after-le n p (x ∷ y ∷ ys) b = go (eqb p x) (after-le n p (y ∷ ys) (b .1))
     go true l = b .1 .0
     go false l = l
 
-pub occurs-below : (n : ℕ) (xs : List ℕ) → ((p : ℕ) → occurs p xs ≢ 0 → p < n) → Below n xs
+pub occurs-below : (n : ℕ) (xs : List ℕ) → ((p : ℕ) → occurs p xs ≢ 0 → p < n) → AllBelow n xs
 occurs-below n [] f = tt
 occurs-below n (x ∷ xs) f = (f x (λ z. let e : bit (eqb x x) ≡ 1 = ap bit (eqb-yes x x refl) in omega arith), occurs-below n xs (λ p d. f p (λ z. d (omega arith))))
 
-pub pixels-below : {o : RunnerConfig} {w h : ℕ} {image : List ℕ} {held : Held} (s : State) → Agrees o w h image held s → (k : ℕ) → Below (w * h) (cluster s k .pixels)
-pixels-below {w} {h} {held} s A k = occurs-below (w * h) (cluster s k .pixels) (λ p z. A .placed k p (bit-T (held k p) (λ y. z (A .lists k p ∙ y))) .0)
+pub pixels-below : {o : RunnerConfig} {w h : ℕ} {image : List ℕ} {held : Held} (s : State) → Agrees o w h image held s → (k : ℕ) → AllBelow (w * h) (cluster s k .pixels)
+pixels-below {w} {h} {held} s A k = occurs-below (w * h) (cluster s k .pixels) (λ p z. A .view .placed k p (bit-T (held k p) (λ y. z (A .view .lists k p ∙ y))) .0)
 
 -- ---- what is not told by the ledger, kept by every visit
 
@@ -97,11 +98,11 @@ module _ (image : List ℕ) (bytes : (i : ℕ) → getD image i 0 ≤ 255) where
       -- each deepening takes a root
       depths : (k : ℕ) → cluster s k .depth + countOf (rooted s) n ≤ w * h
       holes : (k : ℕ) → length (cluster s k .holes) ≤ cluster s k .depth
-      children : (k : ℕ) → Below n (cluster s k .holes)
-      outputs : Below n (s .outputs)
+      children : (k : ℕ) → AllBelow n (cluster s k .holes)
+      outputs : AllBelow n (s .outputs)
 
-    put-inner : (k : ℕ) (s : State) → k < n → Inner s → Inner (put k s)
-    unfolding put rooted
+    put-inner : (k : ℕ) (s : State) → k < n → Inner s → Inner (putOut k s)
+    unfolding putOut rooted
     put-inner k s l I = record { table = I .table; rects = I .rects; residues = I .residues; into = I .into; depths = I .depths; holes = I .holes; children = I .children; outputs = below-snoc n k (s .outputs) (I .outputs) l }
 
     module _ (a k : ℕ) (s : State) (G : Going image (w * h) a k s) (I : Inner s) (pos : 0 < a) (e : area (cluster s k) ≡ a) where
@@ -112,8 +113,8 @@ module _ (image : List ℕ) (bytes : (i : ℕ) → getD image i 0 ≤ 255) where
       B = record { total = omega arith; table = I .table }
 
       module _ (t : ℕ) (N : Near s (label s (getD (cluster s k .pixels) 0 0)) t) where
-        merge-inner : Inner (merge k t s)
-        unfolding merge withResidue withCluster emptied
+        merge-inner : Inner (mergeClusterInto k t s)
+        unfolding mergeClusterInto withResidue withCluster emptied
         merge-inner = record {
           table = M .table ∙ I .table;
           rects = every (λ c. OnImage w h (c .rect)) (no-rect w h) (both-rects w h (cluster s t .rect) (cluster s k .rect) (I .rects t) (I .rects k)) (I .rects);
@@ -122,58 +123,58 @@ module _ (image : List ℕ) (bytes : (i : ℕ) → getD image i 0 ≤ 255) where
               (residue-fits (merge-going a k s G pos e t N .sound) t (first, plain-to (ledger (s .log)) k t (k≢t a k s G pos e t N) first (stands a k s G pos e))))
               (I .residues);
           into = every (λ c. c .mergedInto < n) (I .into k) (I .into t) (I .into);
-          depths = every (λ c. c .depth + countOf (rooted (merge k t s)) n ≤ w * h) (fewer k) (fewer t) fewer;
+          depths = every (λ c. c .depth + countOf (rooted (mergeClusterInto k t s)) n ≤ w * h) (fewer k) (fewer t) fewer;
           holes = every (λ c. length (c .holes) ≤ c .depth) (I .holes k) (I .holes t) (I .holes);
-          children = every (λ c. Below n (c .holes)) (I .children k) (I .children t) (I .children);
+          children = every (λ c. AllBelow n (c .holes)) (I .children k) (I .children t) (I .children);
           outputs = I .outputs;
         }
           where
             first : ℕ
             first = getD (cluster s k .pixels) 0 0
 
-            M : Moved k t s (merge k t s)
+            M : Moved k t s (mergeClusterInto k t s)
             M = merge-changes a k s G pos e t N
 
             every : (P : Cluster → Type 0) → P (emptied (cluster s k)) → P (withResidue (cluster s t .residue ⊕ cluster s k .residue) (withCluster (cluster s k) (cluster s t)))
-                → ((j : ℕ) → P (cluster s j)) → (j : ℕ) → P (cluster (merge k t s) j)
+                → ((j : ℕ) → P (cluster s j)) → (j : ℕ) → P (cluster (mergeClusterInto k t s) j)
             every = moved-every M (merge-from a k s G pos e t N) (merge-to a k s G pos e t N)
 
-            fewer : (j : ℕ) → cluster s j .depth + countOf (rooted (merge k t s)) n ≤ w * h
+            fewer : (j : ℕ) → cluster s j .depth + countOf (rooted (mergeClusterInto k t s)) n ≤ w * h
             fewer j = omega (arith, I .depths j, merge-fewer a k s G B pos e fits t N .0)
 
-        deepen-inner : (b : Bool) → Inner (deepen b k t s)
-        unfolding deepen mergedTo withCluster deeper
+        deepen-inner : (b : Bool) → Inner (deepenClusterInto b k t s)
+        unfolding deepenClusterInto mergedTo withCluster deeper
         deepen-inner b = record {
           table = M .table ∙ I .table;
           rects = every (λ c. OnImage w h (c .rect)) (I .rects k) (both-rects w h (cluster s t .rect) (cluster s k .rect) (I .rects t) (I .rects k)) (I .rects);
           residues = every (λ c. Fits (w * h) (c .residue)) (I .residues k) (I .residues t) (I .residues);
           into = every (λ c. c .mergedInto < n) (subst (λ m. t < m) (I .table) (t-slot a k s G pos e t N)) (I .into t) (I .into);
-          depths = every (λ c. c .depth + countOf (rooted (deepen b k t s)) n ≤ w * h) (omega (arith, fewer k)) (omega (arith, I .depths t, less)) (λ j. omega (arith, fewer j));
+          depths = every (λ c. c .depth + countOf (rooted (deepenClusterInto b k t s)) n ≤ w * h) (omega (arith, fewer k)) (omega (arith, I .depths t, less)) (λ j. omega (arith, fewer j));
           holes = every (λ c. length (c .holes) ≤ c .depth) (I .holes k) (more b) (I .holes);
-          children = every (λ c. Below n (c .holes)) (I .children k) (one b) (I .children);
+          children = every (λ c. AllBelow n (c .holes)) (I .children k) (sumOfOne b) (I .children);
           outputs = below-snoc n k (s .outputs) (I .outputs) fits;
         }
           where
-            M : Moved k t s (deepen b k t s)
+            M : Moved k t s (deepenClusterInto b k t s)
             M = deepen-changes a k s G pos e t N b
 
             every : (P : Cluster → Type 0) → P (mergedTo t (cluster s k)) → P (deeper b k (withCluster (cluster s k) (cluster s t)))
-                → ((j : ℕ) → P (cluster s j)) → (j : ℕ) → P (cluster (deepen b k t s) j)
+                → ((j : ℕ) → P (cluster s j)) → (j : ℕ) → P (cluster (deepenClusterInto b k t s) j)
             every = moved-every M (deepen-from a k s G pos e t N b) (deepen-to a k s G pos e t N b)
 
-            less : countOf (rooted (deepen b k t s)) n < countOf (rooted s) n
+            less : countOf (rooted (deepenClusterInto b k t s)) n < countOf (rooted s) n
             less = deepen-fewer a k s G B pos e fits t N b .0
 
-            fewer : (j : ℕ) → cluster s j .depth + countOf (rooted (deepen b k t s)) n ≤ w * h
+            fewer : (j : ℕ) → cluster s j .depth + countOf (rooted (deepenClusterInto b k t s)) n ≤ w * h
             fewer j = omega (arith, I .depths j, less)
 
             more : (y : Bool) → length (if y then cluster s t .holes ++ (k ∷ []) else cluster s t .holes) ≤ cluster s t .depth + 1
             more true = omega (arith, length-append (cluster s t .holes) (k ∷ []), I .holes t)
             more false = omega (arith, I .holes t)
 
-            one : (y : Bool) → Below n (if y then cluster s t .holes ++ (k ∷ []) else cluster s t .holes)
-            one true = below-snoc n k (cluster s t .holes) (I .children t) fits
-            one false = I .children t
+            sumOfOne : (y : Bool) → AllBelow n (if y then cluster s t .holes ++ (k ∷ []) else cluster s t .holes)
+            sumOfOne true = below-snoc n k (cluster s t .holes) (I .children t) fits
+            sumOfOne false = I .children t
 
     visit-inner : (o : RunnerConfig) (a k : ℕ) (s : State) → Going image (w * h) a k s → 0 < a → area (cluster s k) ≡ a → Inner s → Inner (visit o w h a k s)
     visit-inner o a k s G pos e I =
@@ -198,16 +199,16 @@ module _ (image : List ℕ) (bytes : (i : ℕ) → getD image i 0 ≤ 255) where
       children = kids;
       firstChild = λ k. begins-le (length (s .clusters)) (cluster s k .holes) (kids k);
       nextChild = λ k. after-le (length (s .clusters)) k (cluster s (cluster s k .mergedInto) .holes) (kids (cluster s k .mergedInto));
-      outputs = subst (λ m. Below m (s .outputs)) (sym (I .table)) (I .outputs);
+      outputs = subst (λ m. AllBelow m (s .outputs)) (sym (I .table)) (I .outputs);
     }
       where
         C : Basic image (w * h) (ledger (s .log)) s
         C = S .basic
 
-        kids : (k : ℕ) → Below (length (s .clusters)) (cluster s k .holes)
-        kids k = subst (λ m. Below m (cluster s k .holes)) (sym (I .table)) (I .children k)
+        kids : (k : ℕ) → AllBelow (length (s .clusters)) (cluster s k .holes)
+        kids k = subst (λ m. AllBelow m (cluster s k .holes)) (sym (I .table)) (I .children k)
 
-        pixels : (k : ℕ) → Below (w * h) (cluster s k .pixels)
+        pixels : (k : ℕ) → AllBelow (w * h) (cluster s k .pixels)
         pixels k = occurs-below (w * h) (cluster s k .pixels) (λ p z. subst (λ m. p < m) (C .width) (C .places k p (some-held C k p z)))
 
   module _ (o : RunnerConfig) (w h : ℕ) where
@@ -226,8 +227,8 @@ module _ (image : List ℕ) (bytes : (i : ℕ) → getD image i 0 ≤ 255) where
         E .few n (omega arith),
       );
       holes = λ k. omega (arith, ap (λ c. length (c .holes)) (settled s k), ap length (stage1-slots o w h image k .holes));
-      children = λ k. subst (λ c. Below n (c .holes)) (sym (settled s k)) (subst (Below n) (sym (stage1-slots o w h image k .holes)) tt);
-      outputs = subst (Below n) (sym (E .quiet)) tt;
+      children = λ k. subst (λ c. AllBelow n (c .holes)) (sym (settled s k)) (subst (AllBelow n) (sym (stage1-slots o w h image k .holes)) tt);
+      outputs = subst (AllBelow n) (sym (E .quiet)) tt;
     }
       where
         s : State
@@ -246,7 +247,7 @@ module _ (image : List ℕ) (bytes : (i : ℕ) → getD image i 0 ≤ 255) where
     few-slots = omega (arith, early o w h image .short)
 
     -- at every moment
-    pub moments-ranged : Each (Ranged w h) (moments o w h image)
+    pub moments-ranged : Every (Ranged w h) (moments o w h image)
     moments-ranged = each-map (λ u. Between image (w * h) u × Inner w h (length (stage1 o w h image .clusters)) u) (Ranged w h) (moments o w h image)
         (λ u x. ranged w h (length (stage1 o w h image .clusters)) u (x .0 .2 .sound) some-slots few-slots (x .1))
         (moments-keep o w h image (Inner w h (length (stage1 o w h image .clusters))) (visit-inner w h (length (stage1 o w h image .clusters)) o) start-inner)
@@ -286,28 +287,35 @@ module _ (image : List ℕ) (bytes : (i : ℕ) → getD image i 0 ≤ 255) where
         dropEmpty-ranged (stage2 o w h (stage1 o w h image)) (ranged w h (length (stage1 o w h image .clusters)) (stage2 o w h (stage1 o w h image)) (R .0 .sound) some-slots few-slots (R .1))
 
 -- no total of up to 2^20 pixels passes 2^32 - 1
-pub fits-total : (size : ℕ) (x : ColorSum) → size ≤ 1048576 → Fits size x
+pub fits-total : (size : ℕ) (x : ColorSum) → size ≤ capacity → Fits size x
     → (x .r ≤ largestTotal) × (x .g ≤ largestTotal) × (x .b ≤ largestTotal) × (x .a ≤ largestTotal) × (x .count ≤ largestTotal)
 fits-total size x l F = (omega (arith, F .r, F .count), omega (arith, F .g, F .count), omega (arith, F .b, F .count), omega (arith, F .a, F .count), omega (arith, F .count))
 
--- so refusal 7 is never met where what is left is such a total
-pub never-seven : (size : ℕ) (x y : ColorSum) → size ≤ 1048576 → Fits size (x ⊕ y) → sumAnswer x y ≡ 0
+-- an addition whose totals do not pass that is not refused
+pub totals-taken : (x y : ColorSum) → x .r + y .r ≤ largestTotal → x .g + y .g ≤ largestTotal → x .b + y .b ≤ largestTotal → x .a + y .a ≤ largestTotal → x .count + y .count ≤ largestTotal
+    → sumAnswer x y ≡ 0
 unfolding sumAnswer _⊕_
+totals-taken x y r g b a n =
+    rw (le-ltb _ (x .r + y .r) r, le-ltb _ (x .g + y .g) g, le-ltb _ (x .b + y .b) b, le-ltb _ (x .a + y .a) a, le-ltb _ (x .count + y .count) n)
+
+-- so refusal 7 is never met where what is left is such a total
+pub never-seven : (size : ℕ) (x y : ColorSum) → size ≤ capacity → Fits size (x ⊕ y) → sumAnswer x y ≡ 0
+unfolding _⊕_
 never-seven size x y l F =
     let t = fits-total size (x ⊕ y) l F in
-    rw (le-ltb _ (x .r + y .r) (t .0), le-ltb _ (x .g + y .g) (t .1), le-ltb _ (x .b + y .b) (t .2), le-ltb _ (x .a + y .a) (t .3), le-ltb _ (x .count + y .count) (t .4))
+    totals-taken x y (t .0) (t .1) (t .2) (t .3) (t .4)
 
 -- No addition of a run meets refusal 7: not that of a pixel or the merge of two clusters in stage 1 (Early holds after every pixel: `early-at`), not the merge of
 -- two sums in stage 2, nor of two residues (Going holds before every visit).
-module _ (image : List ℕ) (bytes : (i : ℕ) → getD image i 0 ≤ 255) {size : ℕ} (few : size ≤ 1048576) where
+module _ (image : List ℕ) (bytes : (i : ℕ) → getD image i 0 ≤ 255) {size : ℕ} (few : size ≤ capacity) where
   module _ {Gone : ℕ → Type 0} {Keyed : Type 0} (i : ℕ) (s : State) (E : Early image size Gone Keyed i s) where
-    pub add-never-seven : (k : ℕ) → i < size → sumAnswer (cluster s k .sum) (one (pixel image i)) ≡ 0
-    add-never-seven k l = never-seven size (cluster s k .sum) (one (pixel image i)) few (subst (Fits size) total (tally-fits image bytes (λ q. ledger (s .log) k q || eqb q i) size))
+    pub add-never-seven : (k : ℕ) → i < size → sumAnswer (cluster s k .sum) (sumOfOne (pixel image i)) ≡ 0
+    add-never-seven k l = never-seven size (cluster s k .sum) (sumOfOne (pixel image i)) few (subst (Fits size) total (tally-fits image bytes (λ q. ledger (s .log) k q || eqb q i) size))
       where
         apart : (p : ℕ) → T (ledger (s .log) k p) → T (eqb p i) → ⊥
         apart p a b = let y : p ≡ i = eqb→eq p i b in omega (arith, E .before k p a)
 
-        total : tally image (λ q. ledger (s .log) k q || eqb q i) size ≡ cluster s k .sum ⊕ one (pixel image i)
+        total : tally image (λ q. ledger (s .log) k q || eqb q i) size ≡ cluster s k .sum ⊕ sumOfOne (pixel image i)
         total =
             tally-or image (ledger (s .log) k) (λ q. eqb q i) apart size ∙ ap (λ x. x ⊕ tally image (λ q. eqb q i) size) (sym (E .basic .sums k))
             ∙ ap (λ y. cluster s k .sum ⊕ y) (tally-one image i size l)
@@ -322,7 +330,7 @@ module _ (image : List ℕ) (bytes : (i : ℕ) → getD image i 0 ≤ 255) {size
 
   pub merge-never-seven : (a k : ℕ) (s : State) → Going image size a k s → 0 < a → area (cluster s k) ≡ a → (t : ℕ) → Near s (label s (getD (cluster s k .pixels) 0 0)) t
       → (sumAnswer (cluster s t .sum) (cluster s k .sum) ≡ 0) × (sumAnswer (cluster s t .residue) (cluster s k .residue) ≡ 0)
-  unfolding merge withResidue
+  unfolding mergeClusterInto withResidue
   merge-never-seven a k s G pos e t N =
       let S = merge-going a k s G pos e t N .sound in
       let z = target-stands a k s G pos e t N in (
@@ -330,5 +338,5 @@ module _ (image : List ℕ) (bytes : (i : ℕ) → getD image i 0 ≤ 255) {size
         never-seven size (cluster s t .residue) (cluster s k .residue) few (subst (Fits size) (ap (λ c. c .residue) (merge-to a k s G pos e t N)) (residue-fits image bytes S t (stood z))),
       )
     where
-      stood : Stands (ledger (s .log)) t → Stands (ledger (merge k t s .log)) t
+      stood : Stands (ledger (s .log)) t → Stands (ledger (mergeClusterInto k t s .log)) t
       stood z = (z .0, plain-up (ledger (s .log)) k t (k≢t a k s G pos e t N) t (z .0) (λ y. k≢t a k s G pos e t N (sym y)) (z .1))

@@ -8,7 +8,7 @@ use lib.ListN.{getD, set}
 use Rattle.rules.specs.State.{relabel}
 use Rattle.rules.specs.Layout.{walk}
 use Rattle.rules.specs.Paint.{reads}
-use Rattle.rules.specs.Spans.{setFrom, Consecutive}
+use Rattle.rules.specs.Code.Spans.{setFrom, Consecutive}
 use Rattle.rules.proofs.Walks.{Step, step}
 
 -- from `at` on n links lead to the next pixel each; the list goes on behind those n + 1 pixels

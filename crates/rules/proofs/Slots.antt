@@ -13,10 +13,10 @@ use lib.Seq.{getD-set-same, getD-set-other}
 use Rattle.rules.specs.Base.{if_then_else_, times}
 use Rattle.rules.specs.Color.{Color, RunnerConfig, zeroSum, pixel, isDiscard}
 use Rattle.rules.specs.Grid.{up, left, upLeft}
-use Rattle.rules.specs.State.{State, Cluster, BoundingRect, emptyRect, isEmpty, mergeRect, newCluster, cluster, area, pixelRect, withPixel, fresh, add, beginCluster, combine, emptied, withCluster}
+use Rattle.rules.specs.State.{State, Cluster, BoundingRect, emptyRect, isEmpty, mergeRect, newCluster, cluster, area, pixelRect, withPixel, fresh, addPixel, beginCluster, combineClusters, emptied, withCluster}
 use Rattle.rules.specs.Stage1.{sameAt, labelAt, leftMeetsUp, lowerNext, isKey, place, takePixel, taken, combineThenPlace}
 use Rattle.rules.specs.Run.{stage1}
-use Rattle.rules.specs.Ranges.{OnImage}
+use Rattle.rules.specs.Code.Ranges.{OnImage}
 use Rattle.rules.proofs.Early.{Placed, placed, fresh-cluster}
 use Rattle.rules.proofs.Whole.{early-at}
 
@@ -53,33 +53,33 @@ module _ (o : RunnerConfig) (w h : ℕ) (image : List ℕ) (Q : Cluster → Type
       pick (no l) (yes z) = subst Q (sym (List·getD-eq-default (set cs k x) newCluster {n = j} (omega (arith, length-set cs k x)))) none-is
       pick l (no z) = subst Q (sym (getD-set-other cs k j x newCluster z)) (f j)
 
-  combine-every : (a b : ℕ) (s : State) → Every (s .clusters) → Every (combine a b s .clusters)
-  unfolding combine
+  combine-every : (a b : ℕ) (s : State) → Every (s .clusters) → Every (combineClusters a b s .clusters)
+  unfolding combineClusters
   combine-every a b s f =
       set-every (set (s .clusters) b (withCluster (cluster s a) (cluster s b))) a (emptied (cluster s a)) (set-every (s .clusters) b (withCluster (cluster s a) (cluster s b)) f (grows (cluster s a) (cluster s b) (f a) (f b)))
       (empties (cluster s a) (f a))
 
   module _ (i : ℕ) (fits : i < w * h) where
-    add-every : (k : ℕ) (s : State) → Every (s .clusters) → Every (add i (pixel image i) (pixelRect (i % w) (i / w)) k s .clusters)
-    unfolding add
+    add-every : (k : ℕ) (s : State) → Every (s .clusters) → Every (addPixel i (pixel image i) (pixelRect (i % w) (i / w)) k s .clusters)
+    unfolding addPixel
     add-every k s f = set-every (s .clusters) k (withPixel i (pixel image i) (pixelRect (i % w) (i / w)) (cluster s k)) f (joins i fits (cluster s k) (f k))
 
-    beginCluster-every : (s : State) → s .next ≤ length (s .clusters) → Every (s .clusters) → Every (beginCluster i (pixel image i) (pixelRect (i % w) (i / w)) s .clusters)
+    beginCluster-every : (s : State) → s .nextIndex ≤ length (s .clusters) → Every (s .clusters) → Every (beginCluster i (pixel image i) (pixelRect (i % w) (i / w)) s .clusters)
     unfolding beginCluster
-    beginCluster-every s l f j = pick (ℕ-discrete j (s .next))
+    beginCluster-every s l f j = pick (ℕ-discrete j (s .nextIndex))
       where
         x : Cluster
         x = withPixel i (pixel image i) (pixelRect (i % w) (i / w)) newCluster
 
-        P : Placed (s .clusters) (if ltb (s .next) (length (s .clusters)) then set (s .clusters) (s .next) x else s .clusters ++ (x ∷ [])) (s .next) x
-        P = placed (s .clusters) (s .next) x l (ltb (s .next) (length (s .clusters))) refl
+        P : Placed (s .clusters) (if ltb (s .nextIndex) (length (s .clusters)) then set (s .clusters) (s .nextIndex) x else s .clusters ++ (x ∷ [])) (s .nextIndex) x
+        P = placed (s .clusters) (s .nextIndex) x l (ltb (s .nextIndex) (length (s .clusters))) refl
 
-        pick : Dec (j ≡ s .next) → Q (getD (if ltb (s .next) (length (s .clusters)) then set (s .clusters) (s .next) x else s .clusters ++ (x ∷ [])) j newCluster)
+        pick : Dec (j ≡ s .nextIndex) → Q (getD (if ltb (s .nextIndex) (length (s .clusters)) then set (s .clusters) (s .nextIndex) x else s .clusters ++ (x ∷ [])) j newCluster)
         pick (yes z) =
-            subst (λ m. Q (getD (if ltb (s .next) (length (s .clusters)) then set (s .clusters) (s .next) x else s .clusters ++ (x ∷ [])) m newCluster)) (sym z) (subst Q (sym (P .here)) (joins i fits newCluster none-is))
+            subst (λ m. Q (getD (if ltb (s .nextIndex) (length (s .clusters)) then set (s .clusters) (s .nextIndex) x else s .clusters ++ (x ∷ [])) m newCluster)) (sym z) (subst Q (sym (P .here)) (joins i fits newCluster none-is))
         pick (no z) = subst Q (sym (P .other j z)) (f j)
 
-    place-every : (l u : ℕ) (s : State) → s .next ≤ length (s .clusters) → Every (s .clusters) → Every (place o w image i l u s .clusters)
+    place-every : (l u : ℕ) (s : State) → s .nextIndex ≤ length (s .clusters) → Every (s .clusters) → Every (place o w image i l u s .clusters)
     unfolding place
     place-every l u s r f =
         pick (isKey o image i) (isDiscard (o .keyingAction)) (sameAt o image (some i) (up w i) && sameAt o image (some i) (upLeft w i)) (sameAt o image (some i) (left w i) && sameAt o image (some i) (upLeft w i))
@@ -90,15 +90,15 @@ module _ (o : RunnerConfig) (w h : ℕ) (image : List ℕ) (Q : Cluster → Type
         at : BoundingRect
         at = pixelRect (i % w) (i / w)
 
-        pick : (k d x y : Bool) → Every ((if k then (if d then s else add i c at 0 s) else (if x then add i c at u s else (if y then add i c at l s else beginCluster i c at s))) .clusters)
+        pick : (k d x y : Bool) → Every ((if k then (if d then s else addPixel i c at 0 s) else (if x then addPixel i c at u s else (if y then addPixel i c at l s else beginCluster i c at s))) .clusters)
         pick true true x y = f
         pick true false x y = add-every 0 s f
         pick false d true y = add-every u s f
         pick false d false true = add-every l s f
         pick false d false false = beginCluster-every s r f
 
-    take-every : (s : State) → s .next ≤ length (s .clusters) → Every (s .clusters) → Every (takePixel o w image i s .clusters)
-    unfolding takePixel combineThenPlace combine lowerNext
+    take-every : (s : State) → s .nextIndex ≤ length (s .clusters) → Every (s .clusters) → Every (takePixel o w image i s .clusters)
+    unfolding takePixel combineThenPlace combineClusters lowerNext
     take-every s r f = pick (leftMeetsUp o w image i s) (leb (area (cluster s l)) (area (cluster s u)))
       where
         l : ℕ
@@ -107,16 +107,16 @@ module _ (o : RunnerConfig) (w h : ℕ) (image : List ℕ) (Q : Cluster → Type
         u : ℕ
         u = labelAt s (up w i)
 
-        same : (a b : ℕ) → length (combine a b s .clusters) ≡ length (s .clusters)
+        same : (a b : ℕ) → length (combineClusters a b s .clusters) ≡ length (s .clusters)
         same a b = length-set (set (s .clusters) b (withCluster (cluster s a) (cluster s b))) a (emptied (cluster s a)) ∙ length-set (s .clusters) b (withCluster (cluster s a) (cluster s b))
 
-        less : (b : Bool) → (if b then s .next - 1 else s .next) ≤ length (s .clusters)
+        less : (b : Bool) → (if b then s .nextIndex - 1 else s .nextIndex) ≤ length (s .clusters)
         less true = omega arith
         less false = r
 
-        pick : (b c : Bool) → Every ((if b then (if c then place o w image i u u (lowerNext l (combine l u s)) else place o w image i l l (combine u l s)) else place o w image i l u s) .clusters)
-        pick true true = place-every u u (lowerNext l (combine l u s)) (omega (arith, less (eqb (l + 1) (s .next) && eqb (s .next) (length (combine l u s .clusters))), same l u)) (combine-every l u s f)
-        pick true false = place-every l l (combine u l s) (omega (arith, same u l)) (combine-every u l s f)
+        pick : (b c : Bool) → Every ((if b then (if c then place o w image i u u (lowerNext l (combineClusters l u s)) else place o w image i l l (combineClusters u l s)) else place o w image i l u s) .clusters)
+        pick true true = place-every u u (lowerNext l (combineClusters l u s)) (omega (arith, less (eqb (l + 1) (s .nextIndex) && eqb (s .nextIndex) (length (combineClusters l u s .clusters))), same l u)) (combine-every l u s f)
+        pick true false = place-every l l (combineClusters u l s) (omega (arith, same u l)) (combine-every u l s f)
         pick false c = place-every l u s r f
 
   pub stage1-every : Every (stage1 o w h image .clusters)

@@ -10,8 +10,8 @@ use lib.Dec.{T, eqb, ltb, leb, lt→ltb, le→leb, leb→le}
 use lib.ListN.{length}
 use Rattle.rules.specs.Base.{if_then_else_, times, upTo, keep, insertBy, sortBy}
 use Rattle.rules.specs.Color.{RunnerConfig}
-use Rattle.rules.specs.State.{State, cluster, area, put}
-use Rattle.rules.specs.Stage2.{outputAll, neighbours, decide, visit, pass, passes}
+use Rattle.rules.specs.State.{State, cluster, area, putOut}
+use Rattle.rules.specs.Stage2.{outputAll, neighbours, byNeighbours, visit, pass, passes}
 use Rattle.rules.proofs.Facts.{is-true, is-false, eqb-yes, eqb-no}
 use Rattle.rules.proofs.Visits.{All}
 
@@ -119,22 +119,22 @@ module _ (key : ℕ → ℕ) where
 
 -- s with these entries put out too
 puts : State → List ℕ → State
-puts s xs = record { labels = s .labels; clusters = s .clusters; next = s .next; outputs = s .outputs ++ xs; listed = s .listed; log = s .log }
+puts s xs = record { labels = s .labels; clusters = s .clusters; nextIndex = s .nextIndex; outputs = s .outputs ++ xs; listed = s .listed; log = s .log }
 
 module _ (o : RunnerConfig) (w h : ℕ) (zeroed : o .hierarchical ≡ 0) (s : State) where
   visit-puts : (a k : ℕ) (xs : List ℕ) → visit o w h (suc a) k (puts s xs) ≡ puts s (xs ++ keep (λ j. eqb (area (cluster s j)) (suc a)) (k ∷ []))
-  unfolding visit put puts
+  unfolding visit putOut puts
   visit-puts a k xs = pick (eqb (area (cluster s k)) (suc a))
     where
-      out : puts s (xs ++ (k ∷ [])) ≡ put k (puts s xs)
-      out = ap (λ l. record { labels = s .labels; clusters = s .clusters; next = s .next; outputs = l; listed = s .listed; log = s .log }) (sym (append-assoc (s .outputs) xs (k ∷ [])))
+      out : puts s (xs ++ (k ∷ [])) ≡ putOut k (puts s xs)
+      out = ap (λ l. record { labels = s .labels; clusters = s .clusters; nextIndex = s .nextIndex; outputs = l; listed = s .listed; log = s .log }) (sym (append-assoc (s .outputs) xs (k ∷ [])))
 
       above : ltb (o .hierarchical) (suc a) ≡ true
       above = is-true (ltb (o .hierarchical) (suc a)) (lt→ltb (o .hierarchical) (suc a) (omega arith))
 
-      pick : (b : Bool) → (if b then (if ltb (o .hierarchical) (suc a) then put k (puts s xs) else decide o w h (suc a) k (neighbours w h (puts s xs) k) (puts s xs)) else puts s xs)
+      pick : (b : Bool) → (if b then (if ltb (o .hierarchical) (suc a) then putOut k (puts s xs) else byNeighbours o w h (suc a) k (neighbours w h (puts s xs) k) (puts s xs)) else puts s xs)
           ≡ puts s (xs ++ (if b then k ∷ [] else []))
-      pick true = ap (λ b. if b then put k (puts s xs) else decide o w h (suc a) k (neighbours w h (puts s xs) k) (puts s xs)) above ∙ sym out
+      pick true = ap (λ b. if b then putOut k (puts s xs) else byNeighbours o w h (suc a) k (neighbours w h (puts s xs) k) (puts s xs)) above ∙ sym out
       pick false = ap (puts s) (sym (append-nil xs))
 
   visits-put : (a : ℕ) (xs : List ℕ) (n : ℕ) → times n (visit o w h (suc a)) (puts s xs) ≡ puts s (xs ++ keep (λ j. eqb (area (cluster s j)) (suc a)) (upTo n))
@@ -147,7 +147,7 @@ module _ (o : RunnerConfig) (w h : ℕ) (zeroed : o .hierarchical ≡ 0) (s : St
 
   passes-put : (m : ℕ) → passes o w h m s ≡ puts s (buckets (λ k. area (cluster s k)) (upTo (length (s .clusters))) m)
   unfolding passes pass buckets puts
-  passes-put zero = ap (λ l. record { labels = s .labels; clusters = s .clusters; next = s .next; outputs = l; listed = s .listed; log = s .log }) (sym (append-nil (s .outputs)))
+  passes-put zero = ap (λ l. record { labels = s .labels; clusters = s .clusters; nextIndex = s .nextIndex; outputs = l; listed = s .listed; log = s .log }) (sym (append-nil (s .outputs)))
   passes-put (suc m) = ap (pass o w h (suc m)) (passes-put m) ∙ visits-put m (buckets (λ k. area (cluster s k)) (upTo (length (s .clusters))) m) (length (s .clusters))
 
   pub outputAll-passes : (m : ℕ) → ((k : ℕ) → area (cluster s k) ≤ m) → outputAll s ≡ passes o w h m s

@@ -8,12 +8,13 @@ use native.Mathlib.Decide.{ℕ-discrete}
 use lib.Dec.{T}
 use lib.ListN.{length}
 use Rattle.rules.specs.Color.{_⊕_}
-use Rattle.rules.specs.State.{State, cluster, label, withCluster, emptied, withResidue, mergedTo, deeper, merge, deepen, plain, deepened}
+use Rattle.rules.specs.State.{State, cluster, label, withCluster, emptied, withResidue, mergedTo, deeper, mergeClusterInto, deepenClusterInto, plain, deepened}
 use Rattle.rules.specs.Ledger.{Held, enter}
 use Rattle.rules.specs.Claim.{tally, Stands}
+use Rattle.rules.specs.Code.Early.{Basic}
 use Rattle.rules.proofs.Forest.{Forest, Merges, merged}
 use Rattle.rules.proofs.Facts.{T-dec, tally-or}
-use Rattle.rules.proofs.Basic.{Basic, Moved, three, plain-t, plain-o, plain-down, plain-up, plain-to, deepened-o, deepened-down, deepened-up, deepened-to}
+use Rattle.rules.proofs.Basic.{Moved, three, plain-t, plain-o, plain-down, plain-up, plain-to, deepened-o, deepened-down, deepened-up, deepened-to}
 use Rattle.rules.proofs.Basic.{lab-from, lab-other, plain-basic, deepened-basic, merge-f, merge-t, merge-moved, deepen-f, deepen-t, deepen-moved}
 
 -- h: the ledger. O: the same without the deepening merges, which is the residue of each cluster.
@@ -76,7 +77,7 @@ module _ {image : List ℕ} {size : ℕ} {h O : Held} {s : State} (S : Sound ima
               (roots (label s p) (λ e. z (subst (λ m. T (h m p)) e (S .forest .top-held k p y))) ∙ S .labels-top k p y)
 
   plain-forest : Merges (λ k p. T (h k p)) (λ k p. T (O k p)) (λ k p. T (enter (plain f t) h k p)) (λ k p. T (enter (plain f t) O k p))
-      (label s) (label (merge f t s)) (λ j. j ≢ f) f t
+      (label s) (label (mergeClusterInto f t s)) (λ j. j ≢ f) f t
   plain-forest = record {
     f≢t = n;
     f-top = λ p x. S .tops f p x f-root;
@@ -93,7 +94,7 @@ module _ {image : List ℕ} {size : ℕ} {h O : Held} {s : State} (S : Sound ima
     lab-other = other (merge-moved f t s n f-slot t-slot);
   }
 
-  pub plain-sound : Sound image size (enter (plain f t) h) (enter (plain f t) O) (merge f t s)
+  pub plain-sound : Sound image size (enter (plain f t) h) (enter (plain f t) O) (mergeClusterInto f t s)
   unfolding emptied withCluster withResidue
   plain-sound = record {
     basic = plain-basic (S .basic) f t n apart t-slot M (ap (λ c. c .pixels) (merge-f f t s n f-slot t-slot)) (ap (λ c. c .sum) (merge-f f t s n f-slot t-slot));
@@ -101,7 +102,7 @@ module _ {image : List ℕ} {size : ℕ} {h O : Held} {s : State} (S : Sound ima
         (λ z. absurd (plain-down h f t n f (z .0) (z .1) .0 refl))
         (λ z. let y = S .owns t t-stands in (y .0, plain-up O f t n t (y .0) (λ e. n (sym e)) (y .1)))
         (λ k a b z. let y = S .owns k (z .0, subst (λ u. T (u (z .0))) (plain-o h f t k a b) (z .1)) in (y .0, plain-up O f t n k (y .0) a (y .1)));
-    residues = three f t (λ k. Stands (enter (plain f t) h) k → cluster (merge f t s) k .residue ≡ tally image (enter (plain f t) O k) size)
+    residues = three f t (λ k. Stands (enter (plain f t) h) k → cluster (mergeClusterInto f t s) k .residue ≡ tally image (enter (plain f t) O k) size)
         (λ z. absurd (plain-down h f t n f (z .0) (z .1) .0 refl))
         (λ z. ap (λ c. c .residue) (merge-t f t s n f-slot t-slot) ∙ ap₂ (λ x y. x ⊕ y) (S .residues t t-stands) (S .residues f f-stands)
         ∙ sym (tally-or image (O t) (O f) own-apart size) ∙ sym (ap (λ g. tally image g size) (plain-t O f t)))
@@ -112,7 +113,7 @@ module _ {image : List ℕ} {size : ℕ} {h O : Held} {s : State} (S : Sound ima
     labels-top = new-labels-top M (enter (plain f t) h) down;
   }
     where
-      M : Moved f t s (merge f t s)
+      M : Moved f t s (mergeClusterInto f t s)
       M = merge-moved f t s n f-slot t-slot
 
       down : (j q : ℕ) → T (enter (plain f t) h j q) → ((j ≡ t) × T (h f q)) ⊎ T (h j q)
@@ -120,7 +121,7 @@ module _ {image : List ℕ} {size : ℕ} {h O : Held} {s : State} (S : Sound ima
 
   module _ (hollow : Bool) (t-some : t ≢ 0) where
     deepened-forest : Merges (λ k p. T (h k p)) (λ k p. T (O k p)) (λ k p. T (enter (deepened f t) h k p)) (λ k p. T (O k p))
-        (label s) (label (deepen hollow f t s)) (λ j. Unit {0}) f t
+        (label s) (label (deepenClusterInto hollow f t s)) (λ j. Unit {0}) f t
     deepened-forest = record {
       f≢t = n;
       f-top = λ p x. S .tops f p x f-root;
@@ -137,7 +138,7 @@ module _ {image : List ℕ} {size : ℕ} {h O : Held} {s : State} (S : Sound ima
       lab-other = other (deepen-moved f t s n f-slot t-slot hollow);
     }
 
-    pub deepened-sound : Sound image size (enter (deepened f t) h) O (deepen hollow f t s)
+    pub deepened-sound : Sound image size (enter (deepened f t) h) O (deepenClusterInto hollow f t s)
     unfolding mergedTo withCluster deeper
     deepened-sound = record {
       basic = deepened-basic (S .basic) f t n apart t-slot M (ap (λ c. c .pixels) (deepen-f f t s n f-slot t-slot hollow)) (ap (λ c. c .sum) (deepen-f f t s n f-slot t-slot hollow));
@@ -155,7 +156,7 @@ module _ {image : List ℕ} {size : ℕ} {h O : Held} {s : State} (S : Sound ima
     }
       where
         s′ : State
-        s′ = deepen hollow f t s
+        s′ = deepenClusterInto hollow f t s
 
         M : Moved f t s s′
         M = deepen-moved f t s n f-slot t-slot hollow

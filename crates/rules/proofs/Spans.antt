@@ -13,13 +13,13 @@ use lib.IntN.{ℤ, pos, negsuc}
 use lib.ListN.{length, getD, set, length-set, length-append}
 use lib.Seq.{getD-set-same, getD-set-other, set-set}
 use Rattle.rules.specs.Base.{times, apart}
-use Rattle.rules.specs.Color.{Color, ColorSum, RunnerConfig, zeroSum, one, _⊕_, pixel, colorSame, isSame}
+use Rattle.rules.specs.Color.{Color, ColorSum, RunnerConfig, zeroSum, sumOfOne, _⊕_, pixel, colorSame, isSame}
 use Rattle.rules.specs.Grid.{up, left, upLeft}
-use Rattle.rules.specs.State.{State, fresh, Cluster, BoundingRect, Event, added, newCluster, cluster, area, label, isEmpty, mergeRect, pixelRect, withPixel, withCluster, add}
+use Rattle.rules.specs.State.{State, fresh, Cluster, BoundingRect, Event, added, newCluster, cluster, area, label, isEmpty, mergeRect, pixelRect, withPixel, withCluster, addPixel}
 use Rattle.rules.specs.Stage1.{colorAt, sameAt, isKey, labelAt, leftMeetsUp, place, takePixel, taken}
 use Rattle.rules.specs.Layout.{firstOf}
-use Rattle.rules.specs.Ranges.{Fits}
-use Rattle.rules.specs.Spans.{upFrom, setFrom, sumFrom, spanRect, spanOf, logged, addSpan, stepsFrom, Span, InnerSpan, AllExtend, NearBytes}
+use Rattle.rules.specs.Code.Ranges.{Fits}
+use Rattle.rules.specs.Code.Spans.{upFrom, setFrom, sumFrom, spanRect, spanOf, logged, addSpan, stepsFrom, Span, InnerSpan, AllExtend, NearBytes}
 use Rattle.rules.proofs.Facts.{eqb-yes, eqb-no, ⊕-assoc, ⊕-comm, ⊕-none}
 
 -- ---- rectangles
@@ -80,7 +80,7 @@ same-cluster t e f g = cc
 
 -- a state with other labels, clusters and log
 abbrev stateWith : State → List ℕ → List Cluster → List Event → State
-stateWith s ls cs es = record { labels = ls; clusters = cs; next = s .next; outputs = s .outputs; listed = s .listed; log = es }
+stateWith s ls cs es = record { labels = ls; clusters = cs; nextIndex = s .nextIndex; outputs = s .outputs; listed = s .listed; log = es }
 
 same-state : (s : State) {ls ms : List ℕ} {cs ds : List Cluster} {es fs : List Event} → ls ≡ ms → cs ≡ ds → es ≡ fs → stateWith s ls cs es ≡ stateWith s ms ds fs
 same-state s e f g = cc
@@ -89,7 +89,7 @@ module _ (image : List ℕ) (i x y : ℕ) where
   -- of one pixel
   pub span-first : (t : Cluster) → withCluster (spanOf image i x y 1) t ≡ withPixel i (pixel image i) (pixelRect x y) t
   unfolding withCluster withPixel spanOf upFrom sumFrom spanRect pixelRect
-  span-first t = same-cluster t (ap (λ m. t .pixels ++ (m ∷ [])) (omega arith)) (ap (λ m. t .sum ⊕ m) (none-first (one (pixel image (i + 0))) ∙ ap (λ m. one (pixel image m)) (omega arith))) refl
+  span-first t = same-cluster t (ap (λ m. t .pixels ++ (m ∷ [])) (omega arith)) (ap (λ m. t .sum ⊕ m) (none-first (sumOfOne (pixel image (i + 0))) ∙ ap (λ m. sumOfOne (pixel image m)) (omega arith))) refl
     where
       none-first : (z : ColorSum) → zeroSum ⊕ z ≡ z
       none-first z = ⊕-comm zeroSum z ∙ ⊕-none z
@@ -98,17 +98,17 @@ module _ (image : List ℕ) (i x y : ℕ) where
   pub span-next : (n : ℕ) → 0 < n → (t : Cluster) → withCluster (spanOf image i x y (suc n)) t ≡ withPixel (i + n) (pixel image (i + n)) (pixelRect (x + n) y) (withCluster (spanOf image i x y n) t)
   unfolding withCluster withPixel spanOf upFrom sumFrom
   span-next n l t =
-      same-cluster t (sym (append-assoc (t .pixels) (upFrom i n) ((i + n) ∷ []))) (sym (⊕-assoc (t .sum) (sumFrom image i n) (one (pixel image (i + n))))) (sym (rect-more (t .rect) x y n l))
+      same-cluster t (sym (append-assoc (t .pixels) (upFrom i n) ((i + n) ∷ []))) (sym (⊕-assoc (t .sum) (sumFrom image i n) (sumOfOne (pixel image (i + n))))) (sym (rect-more (t .rect) x y n l))
 
   -- ---- the span added
 
   module _ (k : ℕ) (s : State) where
-    pub add-first : addSpan image i x y 1 k s ≡ add i (pixel image i) (pixelRect x y) k s
-    unfolding addSpan add setFrom logged
+    pub add-first : addSpan image i x y 1 k s ≡ addPixel i (pixel image i) (pixelRect x y) k s
+    unfolding addSpan addPixel setFrom logged
     add-first = same-state s (ap (λ m. set (s .labels) m k) (omega arith)) (ap (set (s .clusters) k) (span-first (cluster s k))) (ap (λ m. added m k ∷ s .log) (omega arith))
 
-    pub add-next : (n : ℕ) → 0 < n → k < length (s .clusters) → addSpan image i x y (suc n) k s ≡ add (i + n) (pixel image (i + n)) (pixelRect (x + n) y) k (addSpan image i x y n k s)
-    unfolding addSpan add setFrom logged
+    pub add-next : (n : ℕ) → 0 < n → k < length (s .clusters) → addSpan image i x y (suc n) k s ≡ addPixel (i + n) (pixel image (i + n)) (pixelRect (x + n) y) k (addSpan image i x y n k s)
+    unfolding addSpan addPixel setFrom logged
     add-next n l z = same-state s refl
         (ap (set (s .clusters) k) (span-next n l (cluster s k))
         ∙ sym (set-set (s .clusters) k A (withPixel (i + n) (pixel image (i + n)) (pixelRect (x + n) y) A))
@@ -121,7 +121,7 @@ pub span-cluster : (image : List ℕ) (i x y n k : ℕ) (s : State) → k < leng
 unfolding addSpan
 span-cluster image i x y n k s l = getD-set-same (s .clusters) k (withCluster (spanOf image i x y n) (cluster s k)) newCluster l
 
-pub span-free : (image : List ℕ) (i x y n k : ℕ) (s : State) → addSpan image i x y n k s .next ≡ s .next
+pub span-free : (image : List ℕ) (i x y n k : ℕ) (s : State) → addSpan image i x y n k s .nextIndex ≡ s .nextIndex
 unfolding addSpan
 span-free image i x y n k s = refl
 
@@ -153,7 +153,7 @@ first-upFrom i (suc n) = first-of (upFrom i (suc n)) ((i + suc n) ∷ []) (omega
     first-of (x ∷ xs) ys l = refl
 
 pub sum-fits : (image : List ℕ) → ((p : ℕ) → getD image p 0 ≤ 255) → (i n : ℕ) → Fits n (sumFrom image i n)
-unfolding sumFrom one _⊕_ pixel
+unfolding sumFrom sumOfOne _⊕_ pixel
 sum-fits image b i zero = record { count = omega arith; r = omega arith; g = omega arith; b = omega arith; a = omega arith }
 sum-fits image b i (suc n) =
     let F = sum-fits image b i n in
@@ -194,15 +194,15 @@ module _ (o : RunnerConfig) (w : ℕ) (image : List ℕ) where
   take-places i s e = rw (eqb-yes (labelAt s (left w i)) (labelAt s (up w i)) e)
 
   place-joins : (i l u : ℕ) (s : State) → isKey o image i ≡ false → sameAt o image (some i) (up w i) && sameAt o image (some i) (upLeft w i) ≡ true
-      → place o w image i l u s ≡ add i (pixel image i) (pixelRect (i % w) (i / w)) u s
+      → place o w image i l u s ≡ addPixel i (pixel image i) (pixelRect (i % w) (i / w)) u s
   unfolding place
   place-joins i l u s f e = rw (f, e)
 
   pub take-joins : (i k : ℕ) (s : State) → labelAt s (left w i) ≡ k → labelAt s (up w i) ≡ k → isKey o image i ≡ false
       → sameAt o image (some i) (up w i) && sameAt o image (some i) (upLeft w i) ≡ true
-      → takePixel o w image i s ≡ add i (pixel image i) (pixelRect (i % w) (i / w)) k s
+      → takePixel o w image i s ≡ addPixel i (pixel image i) (pixelRect (i % w) (i / w)) k s
   take-joins i k s l u f e =
-      take-places i s (l ∙ sym u) ∙ place-joins i (labelAt s (left w i)) (labelAt s (up w i)) s f e ∙ ap (λ m. add i (pixel image i) (pixelRect (i % w) (i / w)) m s) u
+      take-places i s (l ∙ sym u) ∙ place-joins i (labelAt s (left w i)) (labelAt s (up w i)) s f e ∙ ap (λ m. addPixel i (pixel image i) (pixelRect (i % w) (i / w)) m s) u
 
   -- ---- the span
 
@@ -223,18 +223,18 @@ module _ (o : RunnerConfig) (w : ℕ) (image : List ℕ) where
 
     module _ (x y : ℕ) (column : (j : ℕ) → j < n → (i + j) % w ≡ x + j) (row : (j : ℕ) → j < n → (i + j) / w ≡ y) where
       -- the pixel after j of the span is added
-      on : (j : ℕ) (v : State) → v .labels ≡ setFrom (s .labels) i j k → j < n → takePixel o w image (i + j) v ≡ add (i + j) (pixel image (i + j)) (pixelRect (x + j) y) k v
+      on : (j : ℕ) (v : State) → v .labels ≡ setFrom (s .labels) i j k → j < n → takePixel o w image (i + j) v ≡ addPixel (i + j) (pixel image (i + j)) (pixelRect (x + j) y) k v
       on j v e l =
           take-joins (i + j) k v (lefts j v e l) (ups j v e l) (R .free j l) (R .likes j l)
-          ∙ ap (λ p. add (i + j) (pixel image (i + j)) (pixelRect p ((i + j) / w)) k v) (column j l) ∙ ap (λ p. add (i + j) (pixel image (i + j)) (pixelRect (x + j) p) k v) (row j l)
+          ∙ ap (λ p. addPixel (i + j) (pixel image (i + j)) (pixelRect p ((i + j) / w)) k v) (column j l) ∙ ap (λ p. addPixel (i + j) (pixel image (i + j)) (pixelRect (x + j) p) k v) (row j l)
 
       -- A span is its pixels taken one by one.
       pub span-steps : (m : ℕ) → m < n → stepsFrom i (suc m) (takePixel o w image) s ≡ addSpan image i x y (suc m) k s
       unfolding stepsFrom setFrom
       span-steps zero l = on 0 s refl l ∙ again ∙ sym (add-first image i x y k s)
         where
-          again : add (i + 0) (pixel image (i + 0)) (pixelRect (x + 0) y) k s ≡ add i (pixel image i) (pixelRect x y) k s
-          again = ap (λ p. add p (pixel image p) (pixelRect (x + 0) y) k s) (let a : i + 0 ≡ i = omega arith in a) ∙ ap (λ p. add i (pixel image i) (pixelRect p y) k s) (let a : x + 0 ≡ x = omega arith in a)
+          again : addPixel (i + 0) (pixel image (i + 0)) (pixelRect (x + 0) y) k s ≡ addPixel i (pixel image i) (pixelRect x y) k s
+          again = ap (λ p. addPixel p (pixel image p) (pixelRect (x + 0) y) k s) (let a : i + 0 ≡ i = omega arith in a) ∙ ap (λ p. addPixel i (pixel image i) (pixelRect p y) k s) (let a : x + 0 ≡ x = omega arith in a)
       span-steps (suc m) l =
           ap (takePixel o w image (i + suc m)) (span-steps m (omega arith)) ∙ on (suc m) (addSpan image i x y (suc m) k s) (labels-of (suc m)) l
           ∙ sym (add-next image i x y k s (suc m) (omega arith) (R .slot))

@@ -10,13 +10,13 @@ use native.Mathlib.Omega.{arith}
 use lib.Dec.{eqb, ltb, leb}
 use lib.ListN.{length, getD, length-append, length-map}
 use Rattle.rules.specs.Base.{if_then_else_, noneAbove, member}
-use Rattle.rules.specs.Color.{RunnerConfig, isDiscard, exceeds}
+use Rattle.rules.specs.Color.{RunnerConfig, hierarchicalMax, isDiscard, exceeds}
 use Rattle.rules.specs.Grid.{sides}
-use Rattle.rules.specs.State.{State, cluster, label, area, withResidue, put, merge, deepen}
+use Rattle.rules.specs.State.{State, cluster, label, area, withResidue, putOut, mergeClusterInto, deepenClusterInto}
 use Rattle.rules.specs.Stage1.{isKey}
-use Rattle.rules.specs.Stage2.{allIn, neighbours, diff, deepens, decide, visit, prepareStage2}
+use Rattle.rules.specs.Stage2.{allIn, neighbours, clusterDiff, deepens, byNeighbours, visit, prepareStage2}
 use Rattle.rules.specs.Run.{stage1}
-use Rattle.rules.specs.Order.{Queue, pick, rekey, queue, start, turn, turnOf, visited, turns, drained, largest, anyOf}
+use Rattle.rules.specs.Code.Order.{Queue, nextPending, rekey, queue, start, turn, turnOf, visited, turns, drained, largest, anyOf}
 use Rattle.rules.specs.Ledger.{ledger}
 use Rattle.rules.specs.Demand3.{Agrees}
 use Rattle.rules.proofs.Facts.{eqb-yes}
@@ -36,18 +36,19 @@ pub record Ready (o : RunnerConfig) (w h : ℕ) (image : List ℕ) (q : Queue) (
   -- the turn, with the test on the area gone
   pub turns-to : turn o w h q ≡ queue (visit o w h (area (cluster (q .now) k)) k (q .now)) (rekey k (q .now) (visit o w h (area (cluster (q .now) k)) k (q .now)) (q .keys))
   pub visits : visit o w h (area (cluster (q .now) k)) k (q .now)
-      ≡ (if ltb (o .hierarchical) (area (cluster (q .now) k)) then put k (q .now) else decide o w h (area (cluster (q .now) k)) k (neighbours w h (q .now) k) (q .now))
+      ≡ (if ltb (o .hierarchical) (area (cluster (q .now) k)) then putOut k (q .now) else byNeighbours o w h (area (cluster (q .now) k)) k (neighbours w h (q .now) k) (q .now))
   -- no larger area is listed: none is larger
   pub none-larger : noneAbove (area (cluster (q .now) k)) (q .now .listed) ≡ leb (largest (q .now .clusters)) (area (cluster (q .now) k))
   -- its list, by the labels
   pub members : (p : ℕ) → p < w * h → member p (cluster (q .now) k .pixels) ≡ eqb (label (q .now) p) k && not (isKey o image p && isDiscard (o .keyingAction))
   -- whether it deepens, with no boundary and no hole list
   pub deepening : (t : ℕ) → deepens o w h (q .now) k t
-      ≡ eqb (o .hierarchical) 4294967295 && ltb (o .goodMinArea) (area (cluster (q .now) k)) && ltb (area (cluster (q .now) k)) (o .goodMaxArea)
-      && (eqb (o .goodMinArea) 0 || anyOf (λ p. allIn (λ i. eqb (label (q .now) i) k && not (isKey o image i && isDiscard (o .keyingAction))) (sides w h p)) (cluster (q .now) k .pixels))
-      && exceeds (diff (q .now) k t) (o .deepenDiff)
+      ≡ eqb (o .hierarchical) hierarchicalMax
+      && (ltb (o .goodMinArea) (area (cluster (q .now) k)) && ltb (area (cluster (q .now) k)) (o .goodMaxArea)
+      && (eqb (o .goodMinArea) 0 || anyOf (λ p. allIn (λ i. eqb (label (q .now) i) k && not (isKey o image i && isDiscard (o .keyingAction))) (sides w h p)) (cluster (q .now) k .pixels)))
+      && exceeds (clusterDiff (q .now) k t) (o .deepenDiff)
 
-pub turn-ready : (o : RunnerConfig) (w h : ℕ) (image : List ℕ) (m k : ℕ) → pick (turns o w h m (start (prepareStage2 (stage1 o w h image))) .keys) ≡ some k
+pub turn-ready : (o : RunnerConfig) (w h : ℕ) (image : List ℕ) (m k : ℕ) → nextPending (turns o w h m (start (prepareStage2 (stage1 o w h image))) .keys) ≡ some k
     → Ready o w h image (turns o w h m (start (prepareStage2 (stage1 o w h image)))) k
 unfolding visit turn turnOf visited
 turn-ready o w h image m k e = record {
@@ -59,7 +60,7 @@ turn-ready o w h image m k e = record {
   none-larger = none-above o w h (area (cluster s k)) k s (P .going) (turns-listed o w h image m .1 .0) (turns-listed o w h image m .1 .1);
   members = member-label o w h image (area (cluster s k)) k s (P .going) C k R;
   deepening = λ t. deepens-interior o w h s (P .going .sound .basic) (λ l. turns-hollowed o w h image l m .1) k t
-      ∙ ap (λ b. eqb (o .hierarchical) 4294967295 && ltb (o .goodMinArea) (area (cluster s k)) && ltb (area (cluster s k)) (o .goodMaxArea) && (eqb (o .goodMinArea) 0 || b) && exceeds (diff s k t) (o .deepenDiff))
+      ∙ ap (λ b. eqb (o .hierarchical) hierarchicalMax && (ltb (o .goodMinArea) (area (cluster s k)) && ltb (area (cluster s k)) (o .goodMaxArea) && (eqb (o .goodMinArea) 0 || b)) && exceeds (clusterDiff s k t) (o .deepenDiff))
       (interior-labels o w h image (area (cluster s k)) k s (P .going) C k R);
 }
   where
@@ -81,7 +82,7 @@ turn-ready o w h image m k e = record {
 -- ---- the outputs only grow, so the bound on them holds before every turn
 
 visit-grows : (o : RunnerConfig) (w h a k : ℕ) (s : State) → length (s .outputs) ≤ length (visit o w h a k s .outputs)
-unfolding put merge deepen
+unfolding putOut mergeClusterInto deepenClusterInto
 visit-grows o w h a k s =
     visit-cases o w h a k s (λ u. length (s .outputs) ≤ length (u .outputs)) (λ x. omega arith) (λ e l. omega (arith, length-append (s .outputs) (k ∷ [])))
     (λ e l z. isolated-cases o w h a k s (λ u. length (s .outputs) ≤ length (u .outputs)) (omega (arith, length-append (s .outputs) (k ∷ []))) (omega arith))
@@ -89,7 +90,7 @@ visit-grows o w h a k s =
 
 turn-grows : (o : RunnerConfig) (w h : ℕ) (q : Queue) → length (q .now .outputs) ≤ length (turn o w h q .now .outputs)
 unfolding turn turnOf visited
-turn-grows o w h q = go (pick (q .keys))
+turn-grows o w h q = go (nextPending (q .keys))
   where
     go : (b : Option ℕ) → length (q .now .outputs) ≤ length (turnOf o w h b q .now .outputs)
     go off = omega arith
@@ -106,7 +107,7 @@ turns-grow o w h q m (suc n) l = by-cases (ℕ-discrete m (suc n))
 pub turns-outputs : (o : RunnerConfig) (w h : ℕ) (image : List ℕ) (m : ℕ) → length (turns o w h m (start (prepareStage2 (stage1 o w h image))) .now .outputs) ≤ 2 * (w * h)
 unfolding drained
 turns-outputs o w h image m = by-cases (decLt (2 * (w * h)) m)
-    (λ l. omega (arith, ap (λ u. length (u .now .outputs)) (turns-idle o w h q (2 * (w * h)) (idle (pick (turns o w h (2 * (w * h)) q .keys)) refl) m (omega arith)), all))
+    (λ l. omega (arith, ap (λ u. length (u .now .outputs)) (turns-idle o w h q (2 * (w * h)) (idle (nextPending (turns o w h (2 * (w * h)) q .keys)) refl) m (omega arith)), all))
     (λ l. omega (arith, turns-grow o w h q m (2 * (w * h)) (omega arith), all))
   where
     q : Queue
@@ -115,13 +116,13 @@ turns-outputs o w h image m = by-cases (decLt (2 * (w * h)) m)
     all : length (turns o w h (2 * (w * h)) q .now .outputs) ≤ 2 * (w * h)
     all = omega (arith, ap (λ s. length (s .outputs)) (drained-stage2 o w h image), outputs-bound o w h image)
 
-    idle : (b : Option ℕ) → pick (turns o w h (2 * (w * h)) q .keys) ≡ b → pick (turns o w h (2 * (w * h)) q .keys) ≡ off
+    idle : (b : Option ℕ) → nextPending (turns o w h (2 * (w * h)) q .keys) ≡ b → nextPending (turns o w h (2 * (w * h)) q .keys) ≡ off
     idle off e = e
     idle (some k) e = absurd (let z : 2 * (w * h) < 2 * (w * h) = turns-few o w h image (2 * (w * h)) k e in omega arith)
 
 -- stage 2 adds no slot: before and after every turn there are those of stage 1
 pub turns-table : (o : RunnerConfig) (w h : ℕ) (image : List ℕ) (m : ℕ) → length (turns o w h m (start (prepareStage2 (stage1 o w h image))) .now .clusters) ≡ length (stage1 o w h image .clusters)
-unfolding start prepareStage2 put
+unfolding start prepareStage2 putOut
 turns-table o w h image m = turns-keep o w h Whole step (start (prepareStage2 (stage1 o w h image))) (start-turning o w h image, length-map (stage1 o w h image .clusters) (λ c. withResidue (c .sum) c)) m .1
   where
     Whole : State → Type 0

@@ -10,14 +10,14 @@ use native.Mathlib.Omega.{arith}
 use borrow.Author.Tests.{eqb-false, eqb-true, ltb-false, ltb-true}
 use lib.Dec.{T, eqb, ltb, leb}
 use lib.ListN.{length, getD}
-use Rattle.rules.specs.Base.{if_then_else_, noneAbove, times, insert, least}
+use Rattle.rules.specs.Base.{if_then_else_, noneAbove, times, insertOnce, least}
 use Rattle.rules.specs.Color.{RunnerConfig, _⊕_, discards}
 use Rattle.rules.specs.Grid.{sides}
-use Rattle.rules.specs.State.{State, cluster, label, area, emptied, withCluster, withResidue, mergedTo, deeper, put, merge, deepen}
-use Rattle.rules.specs.Stage2.{labelsAt, labelsAround, neighbours, rank, deepens, isolated, mergeInto, decide, visit, pass, passes}
+use Rattle.rules.specs.State.{State, cluster, label, area, emptied, withCluster, withResidue, mergedTo, deeper, putOut, mergeClusterInto, deepenClusterInto}
+use Rattle.rules.specs.Stage2.{labelsAt, labelsAround, neighbours, rank, deepens, isolated, mergeIntoNearest, byNeighbours, visit, pass, passes}
 use Rattle.rules.specs.Ledger.{Held, ledger}
 use Rattle.rules.specs.Claim.{bit, occurs, Stands}
-use Rattle.rules.proofs.Owned.{owned}
+use Rattle.rules.specs.Code.Early.{owned}
 use Rattle.rules.proofs.Facts.{eqb-yes, bit-T, eqb-no}
 use Rattle.rules.proofs.Basic.{Moved, three, merge-f, merge-t, merge-moved, deepen-f, deepen-t, deepen-moved}
 use Rattle.rules.proofs.Sound.{Sound, plain-sound, deepened-sound}
@@ -33,11 +33,11 @@ abbrev pub All : (ℕ → Type 0) → List ℕ → Type 0
 All P [] = Unit {0}
 All P (x ∷ xs) = P x × All P xs
 
-pub insert-all : (P : ℕ → Type 0) (a : ℕ) (xs : List ℕ) → P a → All P xs → All P (insert a xs)
+pub insert-all : (P : ℕ → Type 0) (a : ℕ) (xs : List ℕ) → P a → All P xs → All P (insertOnce a xs)
 insert-all P a [] p q = (p, tt)
 insert-all P a (x ∷ xs) p q = pick (ltb a x) (eqb a x) (insert-all P a xs p (q .1))
   where
-    pick : (b c : Bool) → All P (insert a xs) → All P (if b then a ∷ x ∷ xs else (if c then x ∷ xs else x ∷ insert a xs))
+    pick : (b c : Bool) → All P (insertOnce a xs) → All P (if b then a ∷ x ∷ xs else (if c then x ∷ xs else x ∷ insertOnce a xs))
     pick true c r = (p, q)
     pick false true r = q
     pick false false r = (q .0, r)
@@ -62,10 +62,10 @@ module _ (o : RunnerConfig) (w h : ℕ) where
   labelsAt-near s own [] found a = a
   labelsAt-near s own (off ∷ is) found a = labelsAt-near s own is found a
   labelsAt-near s own (some i ∷ is) found a =
-      labelsAt-near s own is (if eqb (label s i) 0 || eqb (label s i) own then found else insert (label s i) found)
+      labelsAt-near s own is (if eqb (label s i) 0 || eqb (label s i) own then found else insertOnce (label s i) found)
       (pick (eqb (label s i) 0) refl (eqb (label s i) own) refl)
     where
-      pick : (b : Bool) → eqb (label s i) 0 ≡ b → (c : Bool) → eqb (label s i) own ≡ c → All (Near s own) (if b || c then found else insert (label s i) found)
+      pick : (b : Bool) → eqb (label s i) 0 ≡ b → (c : Bool) → eqb (label s i) own ≡ c → All (Near s own) (if b || c then found else insertOnce (label s i) found)
       pick true e c d = a
       pick false e true d = a
       pick false e false d = insert-all (Near s own) (label s i) found (eqb-false (label s i) 0 e, eqb-false (label s i) own d, (i, refl)) a
@@ -82,27 +82,27 @@ module _ (o : RunnerConfig) (w h : ℕ) where
 -- what a visit can do, with why it deepened: nothing; put out (area above hierarchical); what a cluster with no neighbour does; merge, plainly or deepening
 pub visit-cases-why {ℓ} : (o : RunnerConfig) (w h a k : ℕ) (s : State) (P : State → Type ℓ)
     → (area (cluster s k) ≢ a → P s)
-    → (area (cluster s k) ≡ a → o .hierarchical < a → P (put k s))
+    → (area (cluster s k) ≡ a → o .hierarchical < a → P (putOut k s))
     → (area (cluster s k) ≡ a → a ≤ o .hierarchical → neighbours w h s k ≡ [] → P (isolated o a k s))
-    → (area (cluster s k) ≡ a → a ≤ o .hierarchical → (t : ℕ) → Near s (label s (getD (cluster s k .pixels) 0 0)) t → P (merge k t s))
-    → (area (cluster s k) ≡ a → a ≤ o .hierarchical → (t : ℕ) → Near s (label s (getD (cluster s k .pixels) 0 0)) t → (hollow : Bool) → deepens o w h s k t ≡ true → P (deepen hollow k t s))
+    → (area (cluster s k) ≡ a → a ≤ o .hierarchical → (t : ℕ) → Near s (label s (getD (cluster s k .pixels) 0 0)) t → P (mergeClusterInto k t s))
+    → (area (cluster s k) ≡ a → a ≤ o .hierarchical → (t : ℕ) → Near s (label s (getD (cluster s k .pixels) 0 0)) t → (hollow : Bool) → deepens o w h s k t ≡ true → P (deepenClusterInto hollow k t s))
     → P (visit o w h a k s)
-unfolding visit decide mergeInto
+unfolding visit byNeighbours mergeIntoNearest
 visit-cases-why o w h a k s P idle out lone plainly deeply = pick (eqb (area (cluster s k)) a) refl (ltb (o .hierarchical) a) refl
   where
     own : ℕ
     own = label s (getD (cluster s k .pixels) 0 0)
 
-    goes : area (cluster s k) ≡ a → a ≤ o .hierarchical → (t : ℕ) → Near s own t → (hollow b : Bool) → deepens o w h s k t ≡ b → P (if b then deepen hollow k t s else merge k t s)
+    goes : area (cluster s k) ≡ a → a ≤ o .hierarchical → (t : ℕ) → Near s own t → (hollow b : Bool) → deepens o w h s k t ≡ b → P (if b then deepenClusterInto hollow k t s else mergeClusterInto k t s)
     goes e l t N hollow true z = deeply e l t N hollow z
     goes e l t N hollow false z = plainly e l t N
 
-    some-of : area (cluster s k) ≡ a → a ≤ o .hierarchical → (ns : List ℕ) → neighbours w h s k ≡ ns → All (Near s own) ns → P (decide o w h a k ns s)
+    some-of : area (cluster s k) ≡ a → a ≤ o .hierarchical → (ns : List ℕ) → neighbours w h s k ≡ ns → All (Near s own) ns → P (byNeighbours o w h a k ns s)
     some-of e l [] z N = lone e l z
     some-of e l (x ∷ xs) z N =
         goes e l (least (rank s k) x xs) (least-all (Near s own) (rank s k) x xs (N .0) (N .1)) (leb (length (x ∷ xs)) (o .hollowNeighbours)) (deepens o w h s k (least (rank s k) x xs)) refl
 
-    pick : (b : Bool) → eqb (area (cluster s k)) a ≡ b → (c : Bool) → ltb (o .hierarchical) a ≡ c → P (if b then (if c then put k s else decide o w h a k (neighbours w h s k) s) else s)
+    pick : (b : Bool) → eqb (area (cluster s k)) a ≡ b → (c : Bool) → ltb (o .hierarchical) a ≡ c → P (if b then (if c then putOut k s else byNeighbours o w h a k (neighbours w h s k) s) else s)
     pick true e true z = out (eqb-true (area (cluster s k)) a e) (ltb-true (o .hierarchical) a z)
     pick true e false z = some-of (eqb-true (area (cluster s k)) a e) (ltb-false (o .hierarchical) a z) (neighbours w h s k) refl (neighbours-near o w h s k)
     pick false e c z = idle (eqb-false (area (cluster s k)) a e)
@@ -110,17 +110,17 @@ visit-cases-why o w h a k s P idle out lone plainly deeply = pick (eqb (area (cl
 -- what a visit can do: nothing; put out (area above hierarchical); what a cluster with no neighbour does; merge, plainly or deepening
 pub visit-cases {ℓ} : (o : RunnerConfig) (w h a k : ℕ) (s : State) (P : State → Type ℓ)
     → (area (cluster s k) ≢ a → P s)
-    → (area (cluster s k) ≡ a → o .hierarchical < a → P (put k s))
+    → (area (cluster s k) ≡ a → o .hierarchical < a → P (putOut k s))
     → (area (cluster s k) ≡ a → a ≤ o .hierarchical → neighbours w h s k ≡ [] → P (isolated o a k s))
-    → (area (cluster s k) ≡ a → a ≤ o .hierarchical → (t : ℕ) → Near s (label s (getD (cluster s k .pixels) 0 0)) t → P (merge k t s))
-    → (area (cluster s k) ≡ a → a ≤ o .hierarchical → (t : ℕ) → Near s (label s (getD (cluster s k .pixels) 0 0)) t → (hollow : Bool) → P (deepen hollow k t s))
+    → (area (cluster s k) ≡ a → a ≤ o .hierarchical → (t : ℕ) → Near s (label s (getD (cluster s k .pixels) 0 0)) t → P (mergeClusterInto k t s))
+    → (area (cluster s k) ≡ a → a ≤ o .hierarchical → (t : ℕ) → Near s (label s (getD (cluster s k .pixels) 0 0)) t → (hollow : Bool) → P (deepenClusterInto hollow k t s))
     → P (visit o w h a k s)
 visit-cases o w h a k s P idle out lone plainly deeply = visit-cases-why o w h a k s P idle out lone plainly (λ e l t N b z. deeply e l t N b)
 
 -- and what a cluster with no neighbour does: put out, or nothing
-pub isolated-cases {ℓ} : (o : RunnerConfig) (w h a k : ℕ) (s : State) (P : State → Type ℓ) → P (put k s) → P s → P (isolated o a k s)
+pub isolated-cases {ℓ} : (o : RunnerConfig) (w h a k : ℕ) (s : State) (P : State → Type ℓ) → P (putOut k s) → P s → P (isolated o a k s)
 unfolding isolated
-isolated-cases o w h a k s P x y = elim (noneAbove a (s .listed) || discards o) as (λ b. P (if b then put k s else s)) [ true ↦ x | false ↦ y ]
+isolated-cases o w h a k s P x y = elim (noneAbove a (s .listed) || discards o) as (λ b. P (if b then putOut k s else s)) [ true ↦ x | false ↦ y ]
 
 occurs-first : (xs : List ℕ) → 0 < length xs → occurs (getD xs 0 0) xs ≢ 0
 occurs-first [] z e = absurd (omega arith)
@@ -137,8 +137,8 @@ module _ {image : List ℕ} {size : ℕ} where
   pub later : {a k : ℕ} {s : State} → Going image size a k s → Going image size a (suc k) s
   later {a} {k} {s} G = record { sound = G .sound; past = λ j x. elim (G .past j x) [ inl x ↦ inl x | inr x ↦ inr (x .0, omega arith) ] }
 
-  put-sound : {h O : Held} {s : State} (k : ℕ) → Sound image size h O s → Sound image size h O (put k s)
-  unfolding put
+  put-sound : {h O : Held} {s : State} (k : ℕ) → Sound image size h O s → Sound image size h O (putOut k s)
+  unfolding putOut
   put-sound k S = record {
     basic = record { lists = S .basic .lists; sums = S .basic .sums; shown = S .basic .shown; places = S .basic .places; slots = S .basic .slots; width = S .basic .width };
     residues = S .residues;
@@ -148,8 +148,8 @@ module _ {image : List ℕ} {size : ℕ} where
     labels-top = S .labels-top;
   }
 
-  pub put-going : {a k : ℕ} {s : State} (j : ℕ) → Going image size a k s → Going image size a k (put j s)
-  unfolding put
+  pub put-going : {a k : ℕ} {s : State} (j : ℕ) → Going image size a k s → Going image size a k (putOut j s)
+  unfolding putOut
   put-going j G = record { sound = put-sound j (G .sound); past = G .past }
 
   module _ (a k : ℕ) (s : State) (G : Going image size a k s) (pos : 0 < a) (e : area (cluster s k) ≡ a) where
@@ -183,23 +183,23 @@ module _ {image : List ℕ} {size : ℕ} where
       t-slot = G .sound .basic .slots t (target-stands .0) (target-stands .1)
 
       -- what a plain merge changes, and what becomes of k and t
-      pub merge-changes : Moved k t s (merge k t s)
+      pub merge-changes : Moved k t s (mergeClusterInto k t s)
       merge-changes = merge-moved k t s k≢t k-slot t-slot
 
-      pub merge-from : cluster (merge k t s) k ≡ emptied (cluster s k)
+      pub merge-from : cluster (mergeClusterInto k t s) k ≡ emptied (cluster s k)
       merge-from = merge-f k t s k≢t k-slot t-slot
 
-      pub merge-to : cluster (merge k t s) t ≡ withResidue (cluster s t .residue ⊕ cluster s k .residue) (withCluster (cluster s k) (cluster s t))
+      pub merge-to : cluster (mergeClusterInto k t s) t ≡ withResidue (cluster s t .residue ⊕ cluster s k .residue) (withCluster (cluster s k) (cluster s t))
       merge-to = merge-t k t s k≢t k-slot t-slot
 
       -- and a deepening one
-      pub deepen-changes : (hollow : Bool) → Moved k t s (deepen hollow k t s)
+      pub deepen-changes : (hollow : Bool) → Moved k t s (deepenClusterInto hollow k t s)
       deepen-changes = deepen-moved k t s k≢t k-slot t-slot
 
-      pub deepen-from : (hollow : Bool) → cluster (deepen hollow k t s) k ≡ mergedTo t (cluster s k)
+      pub deepen-from : (hollow : Bool) → cluster (deepenClusterInto hollow k t s) k ≡ mergedTo t (cluster s k)
       deepen-from = deepen-f k t s k≢t k-slot t-slot
 
-      pub deepen-to : (hollow : Bool) → cluster (deepen hollow k t s) t ≡ deeper hollow k (withCluster (cluster s k) (cluster s t))
+      pub deepen-to : (hollow : Bool) → cluster (deepenClusterInto hollow k t s) t ≡ deeper hollow k (withCluster (cluster s k) (cluster s t))
       deepen-to = deepen-t k t s k≢t k-slot t-slot
 
       kept : {s′ : State} → Moved k t s s′ → (cluster s′ k .mergedInto ≢ 0 → (area (cluster s′ k) < a) ⊎ ((area (cluster s′ k) ≡ a) × (k < suc k)))
@@ -209,15 +209,15 @@ module _ {image : List ℕ} {size : ℕ} where
           x (λ z. absurd (z (M .t-merged ∙ target-root)))
           (λ j u v. subst (λ c. c .mergedInto ≢ 0 → (area c < a) ⊎ ((area c ≡ a) × (j < suc k))) (sym (M .other j u v)) (later G .past j))
 
-      pub merge-going : Going image size a (suc k) (merge k t s)
-      unfolding merge emptied
+      pub merge-going : Going image size a (suc k) (mergeClusterInto k t s)
+      unfolding mergeClusterInto emptied
       merge-going = record {
         sound = plain-sound (G .sound) k t k≢t root target-root (first, stands) target-stands;
         past = kept merge-changes (λ z. absurd (z (ap (λ c. c .mergedInto) merge-from ∙ root)));
       }
 
-      pub deepen-going : (hollow : Bool) → Going image size a (suc k) (deepen hollow k t s)
-      unfolding deepen mergedTo
+      pub deepen-going : (hollow : Bool) → Going image size a (suc k) (deepenClusterInto hollow k t s)
+      unfolding deepenClusterInto mergedTo
       deepen-going hollow = record {
         sound = deepened-sound (G .sound) k t k≢t root target-root (first, stands) target-stands hollow (N .0);
         past = kept (deepen-changes hollow) (λ z. inr (ap area (deepen-from hollow) ∙ e, omega arith));

@@ -10,19 +10,20 @@ use borrow.Author.Tests.{eqb-true}
 use lib.Dec.{T, eqb}
 use Rattle.rules.specs.Base.{if_then_else_}
 use Rattle.rules.specs.Color.{RunnerConfig, isDiscard, keyingOn, equalColor, pixel}
-use Rattle.rules.specs.State.{State, cluster, label, put, merge, deepen, plain}
+use Rattle.rules.specs.State.{State, cluster, label, putOut, mergeClusterInto, deepenClusterInto, plain}
 use Rattle.rules.specs.Stage1.{isKey, taken}
 use Rattle.rules.specs.Stage2.{outputAll, passes, prepareStage2}
 use Rattle.rules.specs.Run.{stage1, stage2}
 use Rattle.rules.specs.Ledger.{Held, enter, ledger}
 use Rattle.rules.specs.Demand3.{Discarded}
 use Rattle.rules.specs.Claim.{bit, occurs, tally, countOf, Stands, Holds, InResidue}
+use Rattle.rules.specs.Code.Early.{Early}
 use Rattle.rules.proofs.Facts.{countOf-lt, countOf-some, T-both, both-true, is-true}
 use Rattle.rules.proofs.Forest.{Inside, residue-in, residue-out}
 use Rattle.rules.proofs.Sound.{Sound}
 use Rattle.rules.proofs.Visits.{Going, passes-going}
 use Rattle.rules.proofs.Basic.{plain-down, plain-to, plain-up, deepened-down, deepened-up}
-use Rattle.rules.proofs.Early.{Early, taken-early, fresh-early, prepareStage2-going}
+use Rattle.rules.proofs.Early.{taken-early, fresh-early, prepareStage2-going}
 use Rattle.rules.proofs.Outputs.{area-le}
 use Rattle.rules.proofs.Sorted.{outputAll-passes}
 
@@ -114,8 +115,8 @@ Some h p = (k : ℕ) × T (h k p)
 abbrev pub AsBefore : Held → State → Type 0
 AsBefore h s = (p : ℕ) → (Some h p → Some (ledger (s .log)) p) × (Some (ledger (s .log)) p → Some h p)
 
-pub merge-some : (h : Held) (f t : ℕ) (s : State) → f ≢ t → AsBefore h s → AsBefore h (merge f t s)
-unfolding merge
+pub merge-some : (h : Held) (f t : ℕ) (s : State) → f ≢ t → AsBefore h s → AsBefore h (mergeClusterInto f t s)
+unfolding mergeClusterInto
 merge-some h f t s n A p = (λ x. go (A p .0 x) (ℕ-discrete (A p .0 x .0) f), λ x. back (x .0) (plain-down g f t n (x .0) p (x .1) .1))
   where
     g : Held
@@ -129,14 +130,14 @@ merge-some h f t s n A p = (λ x. go (A p .0 x) (ℕ-discrete (A p .0 x .0) f), 
     back k (inl y) = A p .1 (f, y .1)
     back k (inr y) = A p .1 (k, y)
 
-pub deepen-some : (h : Held) (hollow : Bool) (f t : ℕ) (s : State) → AsBefore h s → AsBefore h (deepen hollow f t s)
-unfolding deepen
+pub deepen-some : (h : Held) (hollow : Bool) (f t : ℕ) (s : State) → AsBefore h s → AsBefore h (deepenClusterInto hollow f t s)
+unfolding deepenClusterInto
 deepen-some h hollow f t s A p = (λ x. let y = A p .0 x in (y .0, deepened-up (ledger (s .log)) f t (y .0) p (y .1)), λ x. back (x .0) (deepened-down (ledger (s .log)) f t (x .0) p (x .1)))
   where
     back : (k : ℕ) → ((k ≡ t) × T (ledger (s .log) f p)) ⊎ T (ledger (s .log) k p) → Some h p
     back k (inl y) = A p .1 (f, y .1)
     back k (inr y) = A p .1 (k, y)
 
-pub put-some : (h : Held) (k : ℕ) (s : State) → AsBefore h s → AsBefore h (put k s)
-unfolding put
+pub put-some : (h : Held) (k : ℕ) (s : State) → AsBefore h s → AsBefore h (putOut k s)
+unfolding putOut
 put-some h k s A = A

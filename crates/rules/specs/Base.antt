@@ -4,6 +4,7 @@ use mathlib.Core.List.{List, [], _∷_, _++_}
 use Prim.Native.Nat.{ℕ, zero, suc, _+_, _-_}
 use lib.Dec.{leb, ltb, eqb}
 
+-- x where the condition holds, else y
 infix 5 if_then_else_
 abbrev pub if_then_else_ {ℓ} : {A : Type ℓ} → Bool → A → A → A
 if true then x else y = x
@@ -34,10 +35,7 @@ unfoldable pub upTo : ℕ → List ℕ
 upTo zero = []
 upTo (suc n) = upTo n ++ (n ∷ [])
 
-abbrev pub concat : List (List ℕ) → List ℕ
-concat [] = []
-concat (x ∷ xs) = x ++ concat xs
-
+-- whether a is an entry
 abbrev pub member : ℕ → List ℕ → Bool
 member a [] = false
 member a (x ∷ xs) = eqb a x || member a xs
@@ -53,9 +51,9 @@ noneAbove a [] = true
 noneAbove a (x ∷ xs) = leb x a && noneAbove a xs
 
 -- a number put into a rising list, once
-abbrev pub insert : ℕ → List ℕ → List ℕ
-insert a [] = a ∷ []
-insert a (x ∷ xs) = if ltb a x then a ∷ x ∷ xs else (if eqb a x then x ∷ xs else x ∷ insert a xs)
+abbrev pub insertOnce : ℕ → List ℕ → List ℕ
+insertOnce a [] = a ∷ []
+insertOnce a (x ∷ xs) = if ltb a x then a ∷ x ∷ xs else (if eqb a x then x ∷ xs else x ∷ insertOnce a xs)
 
 -- an entry put before the first one whose key is not smaller
 abbrev pub insertBy : (ℕ → ℕ) → ℕ → List ℕ → List ℕ

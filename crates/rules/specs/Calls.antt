@@ -1,5 +1,5 @@
--- What each public call answers and leaves in the buffers that it is lent, for every input: a refused call changes nothing
--- (document 01, "The two initials", a).
+-- What each public call answers and leaves in the buffers that it is lent, for every input: a refused call changes
+-- nothing (document 01, "The two initials", a).
 use mathlib.Core.List.{List, _++_}
 use Prim.Native.Nat.{ℕ, _+_, _*_}
 use lib.Dec.{eqb}
@@ -44,20 +44,40 @@ leaves s b = record {
   work = replicate (length (b .work)) 0;
 }
 
+-- the five buffers as one
+abbrev pub asBuffers : List ℕ → List ℕ → List ℕ → List ℕ → List ℕ → Buffers
+asBuffers labels links table outputs work = record {
+  labels = labels;
+  links = links;
+  table = table;
+  outputs = outputs;
+  work = work;
+}
+
+-- a number, n and m are answered, and the buffers left
+abbrev pub answered : ℕ → ℕ → ℕ → Buffers → Ran
+answered number n m b = record { number = number; n = n; m = m; buffers = b }
+
 -- a refused run: zero counts, and no buffer changes
 abbrev pub refused : ℕ → Buffers → Ran
-refused number b = record { number = number; n = 0; m = 0; buffers = b }
+refused number b = answered number 0 0 b
 
 module _ (o : RunnerConfig) (w h : ℕ) (image : List ℕ) where
+  -- what an accepted run answers and leaves
   unfoldable pub accepted : Buffers → Ran
   unfolding leaves run
-  accepted b = let s = run o w h image in record { number = 0; n = length (s .clusters); m = length (s .outputs); buffers = leaves s b }
+  accepted b =
+      let s = run o w h image in
+      answered 0 (length (s .clusters)) (length (s .outputs)) (leaves s b)
 
   -- the number that `run` answers when it is lent b
   unfoldable pub runNumber : Buffers → ℕ
   unfolding runAnswer
-  runNumber b = runAnswer w h o (length image) (length (b .labels)) (length (b .links)) (length (b .table)) (length (b .outputs)) (length (b .work))
+  runNumber b =
+      runAnswer w h o (length image) (length (b .labels)) (length (b .links)) (length (b .table))
+      (length (b .outputs)) (length (b .work))
 
+  -- a run: accepted, or refused with its number
   unfoldable pub runCall : Buffers → Ran
   unfolding runNumber accepted
   runCall b = if eqb (runNumber b) 0 then accepted b else refused (runNumber b) b
@@ -67,41 +87,53 @@ unfoldable pub paintCall : ℕ → ℕ → List ℕ → List ℕ → List ℕ �
 unfolding paintAnswer painting
 paintCall w h links table outputs picture n m =
     let number = paintAnswer w h (length links) (length table) (length outputs) (length picture) n m in
-    if eqb number 0 then painting (w * h) n m links table outputs picture else record { answer = number; picture = picture }
+    if eqb number 0
+    then painting (w * h) n m links table outputs picture
+    else record { answer = number; picture = picture }
 
 -- what a run with painting answers and leaves
 pub record RanAndPainted : Type 0 where
   pub ran : Ran
   pub picture : List ℕ
 
+-- a run with its picture
+abbrev pub withPicture : Ran → List ℕ → RanAndPainted
+withPicture ran picture = record { ran = ran; picture = picture }
+
 module _ (o : RunnerConfig) (w h : ℕ) (image : List ℕ) where
+  -- the number that a run with painting answers
   unfoldable pub runAndPaintNumber : Buffers → List ℕ → ℕ
   unfolding runAndPaintAnswer
   runAndPaintNumber b picture =
-      runAndPaintAnswer w h o (length image) (length (b .labels)) (length (b .links)) (length (b .table)) (length (b .outputs)) (length (b .work)) (length picture)
+      runAndPaintAnswer w h o (length image) (length (b .labels)) (length (b .links)) (length (b .table))
+      (length (b .outputs)) (length (b .work)) (length picture)
 
+  -- a run and then its picture: both or nothing
   unfoldable pub runAndPaintCall : Buffers → List ℕ → RanAndPainted
   unfolding runAndPaintNumber accepted paint run
   runAndPaintCall b picture =
       if eqb (runAndPaintNumber b picture) 0
-      then record { ran = accepted o w h image b; picture = paint (w * h) (run o w h image) }
-      else record { ran = refused (runAndPaintNumber b picture) b; picture = picture }
+      then withPicture (accepted o w h image b) (paint (w * h) (run o w h image))
+      else withPicture (refused (runAndPaintNumber b picture) b) picture
 
 -- the part of the picture that a row call hands back; a refused call hands back the first zero bytes
 unfoldable pub rowCall : ℕ → ℕ → List ℕ → ℕ → List ℕ
 unfolding rowAnswer
-rowCall w h picture y = if eqb (rowAnswer w h (length picture) y) 0 then take (4 * w) (drop (4 * w * y) picture) else take 0 picture
+rowCall w h picture y =
+    if eqb (rowAnswer w h (length picture) y) 0 then take (4 * w) (drop (4 * w * y) picture) else take 0 picture
 
 -- what storing answers and leaves in its destination
 pub record StoredSheet : Type 0 where
   pub answer : ℕ
   pub destination : List ℕ
 
+-- the numbers are stored only where no check fails
 unfoldable pub storeCall : ℕ → ℕ → List ℕ → List ℕ → List ℕ → List ℕ → List ℕ → ℕ → ℕ → StoredSheet
 unfolding storedNumbers isLarge storedBytes storeAnswer
 storeCall w h labels links table outputs destination n m =
     let numbers = storedNumbers w h labels links table outputs n m in
-    let number = storeAnswer w h (length labels) (length links) (length table) (length outputs) (length destination) n m (isLarge numbers) (2 * length numbers) in
+    let number = storeAnswer w h (length labels) (length links) (length table) (length outputs) (length destination) n m
+    (isLarge numbers) (2 * length numbers) in
     record { answer = number; destination = if eqb number 0 then storedBytes numbers else destination }
 
 -- `ColorSum::add` and `merge`: the sum that is left

@@ -1,4 +1,5 @@
--- The ledger of demand 3 (document 01, the section of that name): for each cluster number the pixels held. It reads only what was decided.
+-- The ledger of demand 3 (document 01, the section of that name): for each cluster number the pixels held. It reads
+-- only what was decided.
 use mathlib.Core.Bool.{Bool, false, _&&_, _||_}
 use mathlib.Core.List.{List, [], _∷_}
 use Prim.Native.Nat.{ℕ}
@@ -10,7 +11,8 @@ use Rattle.rules.specs.State.{Event, added, plain, deepened}
 abbrev pub Held : Type 0
 Held = ℕ → ℕ → Bool
 
--- a pixel added: that cluster holds it too; a plain merge: t also holds what f held, f nothing; a deepening merge: t also holds what f held, and f keeps it
+-- a pixel added: that cluster holds it too; a plain merge: t also holds what f held, f nothing; a deepening merge: t
+-- also holds what f held, and f keeps it
 abbrev pub enter : Event → Held → Held
 enter (added p k) h j q = (eqb j k && eqb q p) || h j q
 enter (plain f t) h j q = if eqb j t then h t q || h f q else (if eqb j f then false else h j q)

@@ -1,4 +1,4 @@
--- Document 01 as definitions. In the order in which a newcomer reads them:
+-- Document 01 as definitions, in three parts. What must be believed, in the order in which a newcomer reads it:
 -- the rules,
 pub mod Base
 pub mod Color
@@ -14,17 +14,12 @@ pub mod Paint
 pub mod Stored
 pub mod Refusals
 pub mod Calls
--- the images worked by hand and small examples,
-pub mod Worked
-pub mod Edges
-pub mod Examples
--- demand 3,
+-- and demand 3.
 pub mod Ledger
 pub mod Claim
 pub mod Moments
 pub mod Demand3
-pub mod Viewed
--- and the rules told for code to follow.
-pub mod Order
-pub mod Ranges
-pub mod Spans
+-- What pins these definitions, computed.
+pub mod Examples
+-- What only code and proofs need.
+pub mod Code

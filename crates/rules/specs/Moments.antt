@@ -14,28 +14,31 @@ pub record Trace : Type 0 where
   pub now : State
   pub moments : List State
 
+-- at the end of stage 1 there is one moment
 unfoldable pub begun : State → Trace
 begun s = record { now = s; moments = s ∷ [] }
 
 -- a step; where it merged, that is, where it logged something, the state that it leaves is a moment
-unfoldable pub noted : (State → State) → Trace → Trace
-noted f t =
+unfoldable pub tracedStep : (State → State) → Trace → Trace
+tracedStep f t =
     let s = f (t .now) in
     record { now = s; moments = if ltb (length (t .now .log)) (length (s .log)) then s ∷ t .moments else t .moments }
 
 module _ (o : RunnerConfig) (w h : ℕ) where
-  -- `pass` and `passes` of Stage2, noted
-  unfoldable pub notedPass : ℕ → Trace → Trace
-  unfolding noted visit
-  notedPass a t = times (length (t .now .clusters)) (λ k. noted (visit o w h a k)) t
+  -- `pass` and `passes` of Stage2, traced
+  unfoldable pub tracedPass : ℕ → Trace → Trace
+  unfolding tracedStep visit
+  tracedPass a t = times (length (t .now .clusters)) (λ k. tracedStep (visit o w h a k)) t
 
-  unfoldable pub notedPasses : ℕ → Trace → Trace
-  unfolding notedPass
-  notedPasses n t = times n (λ a. notedPass (suc a)) t
+  -- all passes up to area n
+  unfoldable pub tracedPasses : ℕ → Trace → Trace
+  unfolding tracedPass
+  tracedPasses n t = times n (λ a. tracedPass (suc a)) t
 
+  -- the whole run, traced
   unfoldable pub traced : List ℕ → Trace
-  unfolding begun notedPasses stage1 prepareStage2
-  traced image = notedPasses (w * h) (begun (prepareStage2 (stage1 o w h image)))
+  unfolding begun tracedPasses stage1 prepareStage2
+  traced image = tracedPasses (w * h) (begun (prepareStage2 (stage1 o w h image)))
 
   -- the moments of a run, the newest first
   unfoldable pub moments : List ℕ → List State
@@ -54,13 +57,15 @@ Merges (added p k ∷ es) = ⊥
 Merges (plain f t ∷ es) = Merges es
 Merges (deepened f t ∷ es) = Merges es
 
+-- the logs of the moments
 abbrev pub logs : List State → List (List Event)
 logs [] = []
 logs (s ∷ ss) = s .log ∷ logs ss
 
-abbrev pub Each : (State → Type 0) → List State → Type 0
-Each P [] = Unit {0}
-Each P (s ∷ ss) = P s × Each P ss
+-- P of each moment
+abbrev pub Every : (State → Type 0) → List State → Type 0
+Every P [] = Unit {0}
+Every P (s ∷ ss) = P s × Every P ss
 
 -- the newest of a list of states
 abbrev pub Newest : (State → Type 0) → List State → Type 0

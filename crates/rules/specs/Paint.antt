@@ -1,15 +1,14 @@
--- Painting over any buffers, also such that no run made: checks 8, 9 and 10 of document 01 for each entry from last to first, and the
--- picture, painted only when all pass.
-use mathlib.Core.Path.{_≡_}
+-- Painting over any buffers, also such that no run made: checks 8, 9 and 10 of document 01 for each entry from last to
+-- first, and the picture, painted only when all pass.
 use mathlib.Core.Bool.{Bool, true, false, not, _&&_, _||_}
 use mathlib.Core.List.{List}
-use Prim.Native.Nat.{ℕ, zero, suc, _+_, _*_, _<_}
+use Prim.Native.Nat.{ℕ, zero, suc, _+_, _*_}
 use lib.Dec.{leb, ltb, eqb}
-use lib.ListN.{length, getD, replicate}
+use lib.ListN.{getD, replicate}
 use Rattle.rules.specs.Base.{if_then_else_, each, timesBack}
 use Rattle.rules.specs.Color.{ColorSum, average, hasAverage}
-use Rattle.rules.specs.State.{State}
-use Rattle.rules.specs.Layout.{link, slot, walk, slotWidth, firstPixelAt, pixelCountAt, sumAt, residueAt}
+use Rattle.rules.specs.Layout.{walk, slotWidth, firstPixelPlace, pixelCountPlace, sumPlace}
+use Rattle.rules.specs.Layout.{residuePlace}
 use Rattle.rules.specs.Picture.{paintPixel}
 
 -- whether `count` more pixels can be listed along the links from v, a pixel number plus one: no link is 0 or above size
@@ -33,24 +32,28 @@ fiveFrom f table k = record {
   count = slotNumber table k (f + 4);
 }
 
-abbrev pub sumOf : List ℕ → ℕ → ColorSum
-sumOf = fiveFrom sumAt
+-- the sum of slot k
+abbrev pub slotSum : List ℕ → ℕ → ColorSum
+slotSum = fiveFrom sumPlace
 
-abbrev pub residueOf : List ℕ → ℕ → ColorSum
-residueOf = fiveFrom residueAt
+-- the residue of slot k
+abbrev pub slotResidue : List ℕ → ℕ → ColorSum
+slotResidue = fiveFrom residuePlace
 
 -- the pixels of slot k, along the links
-unfoldable pub pixelsOf : List ℕ → List ℕ → ℕ → List ℕ
+unfoldable pub slotPixels : List ℕ → List ℕ → ℕ → List ℕ
 unfolding slotNumber walk
-pixelsOf links table k = walk (λ p. getD links p 0) (slotNumber table k firstPixelAt) (slotNumber table k pixelCountAt)
+slotPixels links table k =
+    walk (λ p. getD links p 0) (slotNumber table k firstPixelPlace) (slotNumber table k pixelCountPlace)
 
 -- The answer for an entry that names slot k: 8, 9, 10, or 0. size is w × h, n the number of slots.
 unfoldable pub entryAnswer : ℕ → ℕ → List ℕ → List ℕ → ℕ → ℕ
 unfolding slotNumber fiveFrom hasAverage
 entryAnswer size n links table k =
     if not (ltb k n) then 8
-    else (if not (hasAverage (residueOf table k)) then 9
-    else (if not (leb (slotNumber table k pixelCountAt) size) || not (reads size links (slotNumber table k firstPixelAt) (slotNumber table k pixelCountAt)) then 10
+    else (if not (hasAverage (slotResidue table k)) then 9
+    else (if not (leb (slotNumber table k pixelCountPlace) size)
+    || not (reads size links (slotNumber table k firstPixelPlace) (slotNumber table k pixelCountPlace)) then 10
     else 0))
 
 -- entries m - 1, .. 0: the first answer that is not 0
@@ -63,14 +66,16 @@ entriesAnswer size n links table outputs (suc i) =
 
 -- the cluster of slot k is painted with its residue average
 unfoldable pub paintSlot : List ℕ → List ℕ → ℕ → List ℕ → List ℕ
-unfolding pixelsOf fiveFrom paintPixel average
-paintSlot links table k picture = each (pixelsOf links table k) (paintPixel (average (residueOf table k))) picture
+unfolding slotPixels fiveFrom paintPixel average
+paintSlot links table k picture = each (slotPixels links table k) (paintPixel (average (slotResidue table k))) picture
 
 -- zeros, then entries m - 1, .. 0
 unfoldable pub paintEntries : ℕ → List ℕ → List ℕ → List ℕ → ℕ → List ℕ
 unfolding paintSlot
-paintEntries size links table outputs m = timesBack m (λ i. paintSlot links table (getD outputs i 0)) (replicate (4 * size) 0)
+paintEntries size links table outputs m =
+    timesBack m (λ i. paintSlot links table (getD outputs i 0)) (replicate (4 * size) 0)
 
+-- what painting answers, and the picture as it leaves it
 pub record Painted : Type 0 where
   pub answer : ℕ
   pub picture : List ℕ
@@ -81,11 +86,3 @@ unfolding entriesAnswer paintEntries
 painting size n m links table outputs given =
     let answer = entriesAnswer size n links table outputs m in
     record { answer = answer; picture = if eqb answer 0 then paintEntries size links table outputs m else given }
-
--- a state lies in buffers, which may be longer than needed
-pub record Lies (size : ℕ) (s : State) (n m : ℕ) (links table outputs : List ℕ) : Type 0 where
-  pub slots : n ≡ length (s .clusters)
-  pub entries : m ≡ length (s .outputs)
-  pub linked : (p : ℕ) → p < size → getD links p 0 ≡ link s p
-  pub numbers : (k f : ℕ) → k < n → f < slotWidth → getD table (slotWidth * k + f) 0 ≡ getD (slot s k) f 0
-  pub put : (i : ℕ) → i < m → getD outputs i 0 ≡ getD (s .outputs) i 0

@@ -8,6 +8,7 @@ use Rattle.rules.specs.State.{State, cluster}
 use Rattle.rules.specs.Stage1.{taken}
 use Rattle.rules.specs.Stage2.{prepareStage2, outputAll, passes}
 
+-- all pixels are taken
 unfoldable pub stage1 : RunnerConfig → ℕ → ℕ → List ℕ → State
 unfolding taken
 stage1 o w h image = taken o w image (w * h) (w * h)
@@ -22,12 +23,13 @@ unfoldable pub dropEmpty : State → State
 dropEmpty s = record {
   labels = s .labels;
   clusters = s .clusters;
-  next = s .next;
+  nextIndex = s .nextIndex;
   outputs = keep (λ k. ltb 0 (cluster s k .sum .count)) (s .outputs);
   listed = s .listed;
   log = s .log;
 }
 
+-- both stages, and what is dropped at the end
 unfoldable pub run : RunnerConfig → ℕ → ℕ → List ℕ → State
 unfolding stage1 stage2 dropEmpty
 run o w h image = dropEmpty (stage2 o w h (stage1 o w h image))

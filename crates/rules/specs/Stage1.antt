@@ -9,7 +9,8 @@ use lib.ListN.{length}
 use Rattle.rules.specs.Base.{if_then_else_, times}
 use Rattle.rules.specs.Color.{Color, RunnerConfig, equalColor, keyingOn, isDiscard, isSame, pixel}
 use Rattle.rules.specs.Grid.{up, left, upLeft}
-use Rattle.rules.specs.State.{State, fresh, cluster, label, area, pixelRect, add, beginCluster, combine}
+use Rattle.rules.specs.State.{State, fresh, cluster, label, area, pixelRect, addPixel, beginCluster}
+use Rattle.rules.specs.State.{combineClusters}
 
 -- the pixel at a place; off the image it is none
 unfoldable pub colorAt : List ℕ → Option ℕ → Option Color
@@ -32,12 +33,16 @@ unfoldable pub isKey : RunnerConfig → List ℕ → ℕ → Bool
 unfolding keyingOn equalColor pixel
 isKey o image i = keyingOn o && equalColor (pixel image i) (o .keyColor)
 
--- next falls by one where l, which left's cluster went with, was the number just below next and next equals the slot count
+-- next falls by one where l, which left's cluster went with, was the number just below next and next equals the slot
+-- count
 unfoldable pub lowerNext : ℕ → State → State
 lowerNext l s = record {
   labels = s .labels;
   clusters = s .clusters;
-  next = if eqb (l + 1) (s .next) && eqb (s .next) (length (s .clusters)) then s .next - 1 else s .next;
+  nextIndex =
+      if eqb (l + 1) (s .nextIndex) && eqb (s .nextIndex) (length (s .clusters))
+      then s .nextIndex - 1
+      else s .nextIndex;
   outputs = s .outputs;
   listed = s .listed;
   log = s .log;
@@ -53,20 +58,23 @@ module _ (o : RunnerConfig) (w : ℕ) (image : List ℕ) where
 
   -- steps 2 to 5, with l and u for the labels of left and up
   unfoldable pub place : ℕ → ℕ → ℕ → State → State
-  unfolding isKey sameAt up left upLeft pixel pixelRect add beginCluster
+  unfolding isKey sameAt up left upLeft pixel pixelRect addPixel beginCluster
   place i l u s =
       let c = pixel image i in
       let at = pixelRect (i % w) (i / w) in
-      if isKey o image i then (if isDiscard (o .keyingAction) then s else add i c at 0 s)
-      else (if sameAt o image (some i) (up w i) && sameAt o image (some i) (upLeft w i) then add i c at u s
-      else (if sameAt o image (some i) (left w i) && sameAt o image (some i) (upLeft w i) then add i c at l s
+      if isKey o image i then (if isDiscard (o .keyingAction) then s else addPixel i c at 0 s)
+      else (if sameAt o image (some i) (up w i) && sameAt o image (some i) (upLeft w i) then addPixel i c at u s
+      else (if sameAt o image (some i) (left w i) && sameAt o image (some i) (upLeft w i) then addPixel i c at l s
       else beginCluster i c at s))
 
-  -- step 1, the merge: the smaller cluster goes into the larger, left into up on equal counts; the other steps read both labels as the survivor's
+  -- step 1, the merge: the smaller cluster goes into the larger, left into up on equal counts; the other steps read
+  -- both labels as the survivor's
   unfoldable pub combineThenPlace : ℕ → ℕ → ℕ → State → State
-  unfolding combine lowerNext place
+  unfolding combineClusters lowerNext place
   combineThenPlace i l u s =
-      if leb (area (cluster s l)) (area (cluster s u)) then place i u u (lowerNext l (combine l u s)) else place i l l (combine u l s)
+      if leb (area (cluster s l)) (area (cluster s u))
+      then place i u u (lowerNext l (combineClusters l u s))
+      else place i l l (combineClusters u l s)
 
   -- pixel i is taken
   unfoldable pub takePixel : ℕ → State → State

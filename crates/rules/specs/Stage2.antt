@@ -1,4 +1,5 @@
--- Stage 2, merges and the output order: document 01, "The output order" (`stage_2` of builder.rs, `patch_good` of runner.rs).
+-- Stage 2, merges and the output order: document 01, "The output order" (`stage_2` of builder.rs, `patch_good` of
+-- runner.rs).
 use mathlib.Core.Bool.{Bool, true, false, not, _&&_, _||_}
 use mathlib.Core.List.{List, [], _∷_, _++_, map}
 use mathlib.Core.Option.{Option, some}
@@ -6,15 +7,16 @@ use mathlib.Core.Option.{none as off}
 use Prim.Native.Nat.{ℕ, suc, _+_}
 use lib.Dec.{leb, ltb, eqb}
 use lib.ListN.{length, getD}
-use Rattle.rules.specs.Base.{if_then_else_, times, upTo, member, noneAbove, insert, keep, sortBy, least}
+use Rattle.rules.specs.Base.{if_then_else_, times, upTo, member, noneAbove, insertOnce, keep, sortBy, least}
 use Rattle.rules.specs.Color.{hierarchicalMax, RunnerConfig, discards, colorDiff, average, exceeds}
 use Rattle.rules.specs.Grid.{sides}
-use Rattle.rules.specs.State.{State, Cluster, cluster, label, area, withResidue, put, merge, deepen}
+use Rattle.rules.specs.State.{State, Cluster, cluster, label, area, withResidue, putOut, mergeClusterInto}
+use Rattle.rules.specs.State.{deepenClusterInto}
 
 -- the areas of the clusters with pixels, each once, rising
 unfoldable pub areasOf : List Cluster → List ℕ → List ℕ
 areasOf [] l = l
-areasOf (c ∷ cs) l = areasOf cs (if eqb (area c) 0 then l else insert (area c) l)
+areasOf (c ∷ cs) l = areasOf cs (if eqb (area c) 0 then l else insertOnce (area c) l)
 
 -- Stage 1 ends: each residue is set to its sum, and the areas present are listed.
 unfoldable pub prepareStage2 : State → State
@@ -22,7 +24,7 @@ unfolding withResidue areasOf
 prepareStage2 s = record {
   labels = s .labels;
   clusters = map (λ c. withResidue (c .sum) c) (s .clusters);
-  next = s .next;
+  nextIndex = s .nextIndex;
   outputs = s .outputs;
   listed = areasOf (s .clusters) [];
   log = s .log;
@@ -34,8 +36,10 @@ unfolding sortBy upTo
 outputAll s = record {
   labels = s .labels;
   clusters = s .clusters;
-  next = s .next;
-  outputs = s .outputs ++ sortBy (λ k. area (cluster s k)) (keep (λ k. ltb 0 (area (cluster s k))) (upTo (length (s .clusters))));
+  nextIndex = s .nextIndex;
+  outputs =
+      s .outputs
+      ++ sortBy (λ k. area (cluster s k)) (keep (λ k. ltb 0 (area (cluster s k))) (upTo (length (s .clusters))));
   listed = s .listed;
   log = s .log;
 }
@@ -46,17 +50,17 @@ labelsAt labels own [] found = found
 labelsAt labels own (off ∷ is) found = labelsAt labels own is found
 labelsAt labels own (some i ∷ is) found =
     let l = getD labels i 0 in
-    labelsAt labels own is (if eqb l 0 || eqb l own then found else insert l found)
+    labelsAt labels own is (if eqb l 0 || eqb l own then found else insertOnce l found)
 
 -- the difference of the averages of the sums of clusters j and k
-unfoldable pub diff : State → ℕ → ℕ → ℕ
+unfoldable pub clusterDiff : State → ℕ → ℕ → ℕ
 unfolding colorDiff average
-diff s j k = colorDiff (average (cluster s j .sum)) (average (cluster s k .sum))
+clusterDiff s j k = colorDiff (average (cluster s j .sum)) (average (cluster s k .sum))
 
 -- what the target of k is chosen by: the neighbour j with the smallest rank, of several the smallest number
 unfoldable pub rank : State → ℕ → ℕ → ℕ
-unfolding diff
-rank s k j = diff s k j
+unfolding clusterDiff
+rank s k j = clusterDiff s k j
 
 -- the pixels of these hole children, one after another
 unfoldable pub holePixels : State → List ℕ → List ℕ
@@ -89,39 +93,49 @@ module _ (w h : ℕ) where
       let hs = holePixels s (cluster s k .holes) in
       length (keep (λ p. not (member p hs) && not (allIn (λ q. member q ps && not (member q hs)) (sides w h p))) ps)
 
--- a cluster with no neighbour is put out if no larger area is listed, or if keying is on with Discard; else it is passed over
+-- a cluster with no neighbour is put out if no larger area is listed, or if keying is on with Discard; else it is
+-- passed over
 unfoldable pub isolated : RunnerConfig → ℕ → ℕ → State → State
-unfolding discards put
-isolated o a k s = if noneAbove a (s .listed) || discards o then put k s else s
+unfolding discards putOut
+isolated o a k s = if noneAbove a (s .listed) || discards o then putOut k s else s
 
 module _ (o : RunnerConfig) (w h : ℕ) where
+  -- whether cluster k may stay a patch (`patch_good`): its area lies between the two settings, and unless the smaller
+  -- is 0 some of its pixels are not on its boundary
+  unfoldable pub patchGood : State → ℕ → Bool
+  unfolding boundary
+  patchGood s k =
+      let a = area (cluster s k) in
+      ltb (o .goodMinArea) a && ltb a (o .goodMaxArea) && (eqb (o .goodMinArea) 0 || ltb (boundary w h s k) a)
+
   -- whether cluster k deepens into t
   unfoldable pub deepens : State → ℕ → ℕ → Bool
-  unfolding boundary diff
+  unfolding patchGood clusterDiff
   deepens s k t =
-      let a = area (cluster s k) in
-      eqb (o .hierarchical) hierarchicalMax && ltb (o .goodMinArea) a && ltb a (o .goodMaxArea)
-      && (eqb (o .goodMinArea) 0 || ltb (boundary w h s k) a) && exceeds (diff s k t) (o .deepenDiff)
+      eqb (o .hierarchical) hierarchicalMax && patchGood s k && exceeds (clusterDiff s k t) (o .deepenDiff)
 
-  -- cluster k with the neighbours x ∷ xs goes into the one of the smallest rank; hollow: at most `hollow_neighbours` neighbours
-  unfoldable pub mergeInto : ℕ → ℕ → List ℕ → State → State
-  unfolding deepens rank merge deepen
-  mergeInto k x xs s =
+  -- cluster k with the neighbours x ∷ xs goes into the one of the smallest rank; hollow: at most `hollow_neighbours`
+  -- neighbours
+  unfoldable pub mergeIntoNearest : ℕ → ℕ → List ℕ → State → State
+  unfolding deepens rank mergeClusterInto deepenClusterInto
+  mergeIntoNearest k x xs s =
       let t = least (rank s k) x xs in
-      if deepens s k t then deepen (leb (length (x ∷ xs)) (o .hollowNeighbours)) k t s else merge k t s
+      if deepens s k t
+      then deepenClusterInto (leb (length (x ∷ xs)) (o .hollowNeighbours)) k t s
+      else mergeClusterInto k t s
 
   -- what becomes of cluster k, of area a, by its neighbours
-  unfoldable pub decide : ℕ → ℕ → List ℕ → State → State
-  unfolding isolated mergeInto
-  decide a k [] s = isolated o a k s
-  decide a k (x ∷ xs) s = mergeInto k x xs s
+  unfoldable pub byNeighbours : ℕ → ℕ → List ℕ → State → State
+  unfolding isolated mergeIntoNearest
+  byNeighbours a k [] s = isolated o a k s
+  byNeighbours a k (x ∷ xs) s = mergeIntoNearest k x xs s
 
   -- slot k is visited at area a: it is taken if its pixel count is that area now
   unfoldable pub visit : ℕ → ℕ → State → State
-  unfolding neighbours decide put
+  unfolding neighbours byNeighbours putOut
   visit a k s =
       if eqb (area (cluster s k)) a
-      then (if ltb (o .hierarchical) a then put k s else decide a k (neighbours w h s k) s)
+      then (if ltb (o .hierarchical) a then putOut k s else byNeighbours a k (neighbours w h s k) s)
       else s
 
   -- slots 0 to n - 1, at area a

@@ -1,12 +1,13 @@
--- The state of a run: labels, clusters, the next free number, the outputs, the areas listed, and the log of what was decided
--- (cluster.rs, bound.rs, builder.rs; document 01, "The cluster table and its lists"). Whatever is decided changes the state by one function of this file, which also logs it.
+-- The state of a run: labels, clusters, the next free number, the outputs, the areas listed, and the log of what was
+-- decided (cluster.rs, bound.rs, builder.rs; document 01, "The cluster table and its lists"). Whatever is decided
+-- changes the state by one function of this file, which also logs it.
 use mathlib.Core.Bool.{Bool, _&&_}
 use mathlib.Core.List.{List, [], _∷_, _++_}
 use Prim.Native.Nat.{ℕ, _+_, min, max}
 use lib.Dec.{ltb, eqb}
 use lib.ListN.{length, getD, set, replicate}
-use Rattle.rules.specs.Base.{if_then_else_, each, insert}
-use Rattle.rules.specs.Color.{Color, ColorSum, zeroSum, one, _⊕_}
+use Rattle.rules.specs.Base.{if_then_else_, each, insertOnce}
+use Rattle.rules.specs.Color.{Color, ColorSum, zeroSum, sumOfOne, _⊕_}
 
 -- right and bottom lie one past the last pixel (bound.rs)
 pub record BoundingRect : Type 0 where
@@ -15,6 +16,7 @@ pub record BoundingRect : Type 0 where
   pub right : ℕ
   pub bottom : ℕ
 
+-- around no pixel
 abbrev pub emptyRect : BoundingRect
 emptyRect = record { left = 0; top = 0; right = 0; bottom = 0 }
 
@@ -22,6 +24,7 @@ emptyRect = record { left = 0; top = 0; right = 0; bottom = 0 }
 unfoldable pub pixelRect : ℕ → ℕ → BoundingRect
 pixelRect x y = record { left = x; top = y; right = x + 1; bottom = y + 1 }
 
+-- whether it lies around no pixel
 unfoldable pub isEmpty : BoundingRect → Bool
 isEmpty a = eqb (a .right) (a .left) && eqb (a .bottom) (a .top)
 
@@ -31,10 +34,16 @@ unfolding isEmpty
 mergeRect a b =
     if isEmpty b then a
     else (if isEmpty a then b
-    else record { left = min (a .left) (b .left); top = min (a .top) (b .top); right = max (a .right) (b .right); bottom = max (a .bottom) (b .bottom) })
+    else record {
+      left = min (a .left) (b .left);
+      top = min (a .top) (b .top);
+      right = max (a .right) (b .right);
+      bottom = max (a .bottom) (b .bottom);
+    })
 
--- A cluster: its pixels in the order of its list, the sum of their colours, the residue (a term of document 01: what is not in a cluster
--- that deepened into it), its rectangle, the cluster that it deepened into (0: none), how many deepened into it, and its hole children.
+-- A cluster: its pixels in the order of its list, the sum of their colours, the residue (a term of document 01: what is
+-- not in a cluster that deepened into it), its rectangle, the cluster that it deepened into (0: none), how many
+-- deepened into it, and its hole children.
 pub record Cluster : Type 0 where
   pub pixels : List ℕ
   pub sum : ColorSum
@@ -46,7 +55,15 @@ pub record Cluster : Type 0 where
 
 -- what a slot holds at first
 abbrev pub newCluster : Cluster
-newCluster = record { pixels = []; sum = zeroSum; residue = zeroSum; rect = emptyRect; mergedInto = 0; depth = 0; holes = [] }
+newCluster = record {
+  pixels = [];
+  sum = zeroSum;
+  residue = zeroSum;
+  rect = emptyRect;
+  mergedInto = 0;
+  depth = 0;
+  holes = [];
+}
 
 -- the pixel count
 abbrev pub area : Cluster → ℕ
@@ -54,10 +71,10 @@ area c = length (c .pixels)
 
 -- k with pixel p, of colour c and rectangle `at`
 unfoldable pub withPixel : ℕ → Color → BoundingRect → Cluster → Cluster
-unfolding one _⊕_ mergeRect
+unfolding sumOfOne _⊕_ mergeRect
 withPixel p c at k = record {
   pixels = k .pixels ++ (p ∷ []);
-  sum = k .sum ⊕ one c;
+  sum = k .sum ⊕ sumOfOne c;
   residue = k .residue;
   rect = mergeRect (k .rect) at;
   mergedInto = k .mergedInto;
@@ -80,14 +97,39 @@ withCluster f t = record {
 
 -- f after a plain merge: it keeps its residue, depth and hole list; sum, rectangle and list become zero
 unfoldable pub emptied : Cluster → Cluster
-emptied f = record { pixels = []; sum = zeroSum; residue = f .residue; rect = emptyRect; mergedInto = f .mergedInto; depth = f .depth; holes = f .holes }
+emptied f = record {
+  pixels = [];
+  sum = zeroSum;
+  residue = f .residue;
+  rect = emptyRect;
+  mergedInto = f .mergedInto;
+  depth = f .depth;
+  holes = f .holes;
+}
 
+-- k with another residue
 unfoldable pub withResidue : ColorSum → Cluster → Cluster
-withResidue s k = record { pixels = k .pixels; sum = k .sum; residue = s; rect = k .rect; mergedInto = k .mergedInto; depth = k .depth; holes = k .holes }
+withResidue s k = record {
+  pixels = k .pixels;
+  sum = k .sum;
+  residue = s;
+  rect = k .rect;
+  mergedInto = k .mergedInto;
+  depth = k .depth;
+  holes = k .holes;
+}
 
 -- f after it deepened into t: it keeps all it had
 unfoldable pub mergedTo : ℕ → Cluster → Cluster
-mergedTo t k = record { pixels = k .pixels; sum = k .sum; residue = k .residue; rect = k .rect; mergedInto = t; depth = k .depth; holes = k .holes }
+mergedTo t k = record {
+  pixels = k .pixels;
+  sum = k .sum;
+  residue = k .residue;
+  rect = k .rect;
+  mergedInto = t;
+  depth = k .depth;
+  holes = k .holes;
+}
 
 -- t after f deepened into it
 unfoldable pub deeper : Bool → ℕ → Cluster → Cluster
@@ -111,18 +153,27 @@ pub data Event : Type 0 where
 pub record State : Type 0 where
   pub labels : List ℕ
   pub clusters : List Cluster
-  pub next : ℕ
+  pub nextIndex : ℕ
   pub outputs : List ℕ
   pub listed : List ℕ
   pub log : List Event
 
 -- before the first pixel: slot 0 exists, and the next free number is 1
 unfoldable pub fresh : ℕ → State
-fresh size = record { labels = replicate size 0; clusters = newCluster ∷ []; next = 1; outputs = []; listed = []; log = [] }
+fresh size = record {
+  labels = replicate size 0;
+  clusters = newCluster ∷ [];
+  nextIndex = 1;
+  outputs = [];
+  listed = [];
+  log = [];
+}
 
+-- cluster k; beyond the table there is only a new one
 abbrev pub cluster : State → ℕ → Cluster
 cluster s k = getD (s .clusters) k newCluster
 
+-- the label of pixel p
 abbrev pub label : State → ℕ → ℕ
 label s p = getD (s .labels) p 0
 
@@ -131,12 +182,12 @@ abbrev pub relabel : ℕ → List ℕ → List ℕ → List ℕ
 relabel t ps labels = each ps (λ p ls. set ls p t) labels
 
 -- Pixel p is added to cluster k, which is in the table.
-unfoldable pub add : ℕ → Color → BoundingRect → ℕ → State → State
+unfoldable pub addPixel : ℕ → Color → BoundingRect → ℕ → State → State
 unfolding withPixel
-add p c at k s = record {
+addPixel p c at k s = record {
   labels = set (s .labels) p k;
   clusters = set (s .clusters) k (withPixel p c at (cluster s k));
-  next = s .next;
+  nextIndex = s .nextIndex;
   outputs = s .outputs;
   listed = s .listed;
   log = added p k ∷ s .log;
@@ -148,55 +199,66 @@ unfolding withPixel
 beginCluster p c at s =
     let k = withPixel p c at newCluster in
     record {
-      labels = set (s .labels) p (s .next);
-      clusters = if ltb (s .next) (length (s .clusters)) then set (s .clusters) (s .next) k else s .clusters ++ (k ∷ []);
-      next = s .next + 1;
+      labels = set (s .labels) p (s .nextIndex);
+      clusters =
+          if ltb (s .nextIndex) (length (s .clusters))
+          then set (s .clusters) (s .nextIndex) k
+          else s .clusters ++ (k ∷ []);
+      nextIndex = s .nextIndex + 1;
       outputs = s .outputs;
       listed = s .listed;
-      log = added p (s .next) ∷ s .log;
+      log = added p (s .nextIndex) ∷ s .log;
     }
 
 -- A merge of stage 1 (`combine_clusters`), a plain one. Every residue is still zero, so there is none to add.
-unfoldable pub combine : ℕ → ℕ → State → State
+unfoldable pub combineClusters : ℕ → ℕ → State → State
 unfolding withCluster emptied
-combine f t s =
+combineClusters f t s =
     let from = cluster s f in
     record {
       labels = relabel t (from .pixels) (s .labels);
       clusters = set (set (s .clusters) t (withCluster from (cluster s t))) f (emptied from);
-      next = s .next;
+      nextIndex = s .nextIndex;
       outputs = s .outputs;
       listed = s .listed;
       log = plain f t ∷ s .log;
     }
 
 -- Cluster k is put out.
-unfoldable pub put : ℕ → State → State
-put k s = record { labels = s .labels; clusters = s .clusters; next = s .next; outputs = s .outputs ++ (k ∷ []); listed = s .listed; log = s .log }
+unfoldable pub putOut : ℕ → State → State
+putOut k s = record {
+  labels = s .labels;
+  clusters = s .clusters;
+  nextIndex = s .nextIndex;
+  outputs = s .outputs ++ (k ∷ []);
+  listed = s .listed;
+  log = s .log;
+}
 
--- What the merges of stage 2 have in common: f's pixels are relabelled, t's new area is listed, and the event is logged.
+-- What the merges of stage 2 have in common: f's pixels are relabelled, t's new area is listed, and the event is
+-- logged.
 unfoldable pub mergeAs : Event → ℕ → ℕ → Cluster → Cluster → List ℕ → State → State
 mergeAs event f t from to outputs s = record {
   labels = relabel t (cluster s f .pixels) (s .labels);
   clusters = set (set (s .clusters) t to) f from;
-  next = s .next;
+  nextIndex = s .nextIndex;
   outputs = outputs;
-  listed = insert (area to) (s .listed);
+  listed = insertOnce (area to) (s .listed);
   log = event ∷ s .log;
 }
 
 -- A plain merge: f's residue is added to t's.
-unfoldable pub merge : ℕ → ℕ → State → State
+unfoldable pub mergeClusterInto : ℕ → ℕ → State → State
 unfolding mergeAs withCluster emptied withResidue _⊕_
-merge f t s =
+mergeClusterInto f t s =
     let from = cluster s f in
     let to = withResidue (cluster s t .residue ⊕ from .residue) (withCluster from (cluster s t)) in
     mergeAs (plain f t) f t (emptied from) to (s .outputs) s
 
 -- A deepening merge: f keeps what it has, and is put out.
-unfoldable pub deepen : Bool → ℕ → ℕ → State → State
+unfoldable pub deepenClusterInto : Bool → ℕ → ℕ → State → State
 unfolding mergeAs withCluster mergedTo deeper
-deepen hollow f t s =
+deepenClusterInto hollow f t s =
     let from = cluster s f in
     let to = deeper hollow f (withCluster from (cluster s t)) in
     mergeAs (deepened f t) f t (mergedTo t from) to (s .outputs ++ (f ∷ [])) s

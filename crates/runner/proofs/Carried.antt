@@ -6,10 +6,10 @@ use native.Mathlib.Decide.{ℕ-discrete}
 use native.Mathlib.Omega.{arith}
 use lib.ListN.{length, getD, set, length-set, length-append, List·getD-append}
 use lib.Seq.{getD-set-same, getD-set-other, getD-append-add}
-use Rattle.rules.specs.State.{State, put}
-use Rattle.runner.specs.Rep.{Rep}
-use Rattle.runner.specs.Queue.{Tree, KeySet, Keyed, stored}
-use Rattle.runner.specs.Stage2.{part, withPart, queuePart, Carried}
+use Rattle.rules.specs.State.{State, putOut}
+use Rattle.runner.specs.Code.Rep.{Rep}
+use Rattle.runner.specs.Code.Queue.{Tree, KeySet, Keyed, queueKey}
+use Rattle.runner.specs.Code.Stage2.{part, withPart, queuePart, Carried}
 use Rattle.runner.proofs.Parts.{part-set, part-length, length-with, after-with, part-with, part-before, part-after}
 use Rattle.runner.proofs.Queues.{keyed-set}
 use Rattle.runner.proofs.RepStage2.{rep-put}
@@ -19,11 +19,11 @@ module _ {size : ℕ} {s : State} {keys t₀ L K B W : List ℕ} {n m marks : �
   room = size + 1
 
   -- cluster k is put out
-  pub carried-put : (k : ℕ) → m < 2 * (size + 1) → Carried size (put k s) keys t₀ L K B (set W (6 * (size + 1) + m) k) n (m + 1) marks
-  unfolding put
+  pub carried-put : (k : ℕ) → m < 2 * (size + 1) → Carried size (putOut k s) keys t₀ L K B (set W (6 * (size + 1) + m) k) n (m + 1) marks
+  unfolding putOut
   carried-put k l = record {
     long = length-set W (6 * room + m) k ∙ C .long;
-    rep = subst (Rep size (put k s) t₀ L K B) (sym (same (3 * room) (5 * room) (omega arith))) (rep-put k (C .rep));
+    rep = subst (Rep size (putOut k s) t₀ L K B) (sym (same (3 * room) (5 * room) (omega arith))) (rep-put k (C .rep));
     slots = C .slots;
     tree = subst (λ q. Tree q n room) (sym (same 0 (3 * room) (omega arith))) (C .tree);
     keyed = subst (λ q. Keyed q n keys) (sym (same 0 (3 * room) (omega arith))) (C .keyed);
@@ -45,7 +45,7 @@ module _ {size : ℕ} {s : State} {keys t₀ L K B W : List ℕ} {n m marks : �
           ∙ sym (List·getD-append (s .outputs) (k ∷ []) 0 i (omega (arith, C .entries)))
 
   -- the key of slot k becomes v; of a slot that is no longer pending v is 0
-  pub carried-queue : (Q : List ℕ) → length Q ≡ 3 * (size + 1) → (k v : ℕ) → k < n → n ≤ size + 1 → v < 4294967295 → KeySet (queuePart (size + 1) W) Q n (size + 1) k (stored v)
+  pub carried-queue : (Q : List ℕ) → length Q ≡ 3 * (size + 1) → (k v : ℕ) → k < n → n ≤ size + 1 → v < 4294967295 → KeySet (queuePart (size + 1) W) Q n (size + 1) k (queueKey v)
       → Carried size s (set keys k v) t₀ L K B (withPart W 0 (3 * (size + 1)) Q) n m marks
   carried-queue Q e k v inside few small S = record {
     long = length-with W 0 (3 * room) Q (omega arith) (omega (arith, C .long)) wide ∙ C .long;

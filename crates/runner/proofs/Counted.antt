@@ -13,11 +13,12 @@ use Rattle.rules.specs.Calls.{over}
 use Rattle.rules.proofs.Calls.{over-length}
 use Rattle.rules.proofs.Sorted.{keep-append}
 use Rattle.rules.proofs.Facts.{keep-le}
-use Rattle.runner.specs.Outputs.{counted, Kept}
+use Rattle.rules.specs.Layout.{slotWidth, sumCountPlace}
+use Rattle.runner.specs.Code.Outputs.{counted, Kept}
 
 pub counted-few : (table entries : List ℕ) → length (counted table entries) ≤ length entries
 unfolding counted
-counted-few table entries = keep-le (λ k. ltb 0 (getD table (21 * k + 10) 0)) entries
+counted-few table entries = keep-le (λ k. ltb 0 (getD table (slotWidth * k + sumCountPlace) 0)) entries
 
 -- written over one entry further
 over-more : (new old : List ℕ) (x : ℕ) → length new < length old → set (over new old) (length new) x ≡ over (new ++ (x ∷ [])) old
@@ -43,12 +44,12 @@ done-entry {table} {outputs₀} {entries} {outputs} {outputs′} {k} {kept} {r} 
 }
   where
     f : ℕ → Bool
-    f j = ltb 0 (getD table (21 * j + 10) 0)
+    f j = ltb 0 (getD table (slotWidth * j + sumCountPlace) 0)
 
-    here : outputs ≡ over (keep (λ j. ltb 0 (getD table (21 * j + 10) 0)) entries) outputs₀
+    here : outputs ≡ over (keep (λ j. ltb 0 (getD table (slotWidth * j + sumCountPlace) 0)) entries) outputs₀
     here = D .written
 
-    count : kept ≡ length (keep (λ j. ltb 0 (getD table (21 * j + 10) 0)) entries)
+    count : kept ≡ length (keep (λ j. ltb 0 (getD table (slotWidth * j + sumCountPlace) 0)) entries)
     count = D .number
 
     W : (c : Bool) → (if c then set outputs kept k else outputs) ≡ over (keep f entries ++ (if c then k ∷ [] else [])) outputs₀

@@ -16,7 +16,7 @@ use Rattle.rules.proofs.Basic.{Moved, three}
 use Rattle.rules.proofs.Links.{last, last-in, moved-tailed, moved-other}
 use Rattle.rules.proofs.Outputs.{area-pos}
 use Rattle.rules.proofs.Visits.{Going, Near, root, k≢t, target-root, target-stands}
-use Rattle.runner.specs.Rep.{Rep, lastOf, linkAfter}
+use Rattle.runner.specs.Code.Rep.{Rep, lastOf, linkAfter}
 use Rattle.runner.proofs.Tails.{lastOf-last, lastOf-append, linked-tail}
 
 pub last-occurs : (xs : List ℕ) → 0 < length xs → occurs (last xs) xs ≢ 0

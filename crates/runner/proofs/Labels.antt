@@ -8,11 +8,11 @@ use lib.Dec.{T}
 use lib.ListN.{length, getD, set, length-set}
 use Rattle.rules.specs.State.{relabel}
 use Rattle.rules.specs.Paint.{reads}
-use Rattle.rules.specs.Spans.{setFrom, Consecutive}
+use Rattle.rules.specs.Code.Spans.{setFrom, Consecutive}
 use Rattle.rules.proofs.Walks.{Step, step}
 use Rattle.rules.proofs.Spans.{length-setFrom}
 use Rattle.rules.proofs.Relabels.{stretch}
-use Rattle.runner.specs.Labelling.{CanRelabel, Relabels}
+use Rattle.runner.specs.Code.Labelling.{CanRelabel, Relabels}
 
 module _ {L K : List ℕ} {at left : ℕ} (C : CanRelabel L K at left) where
   -- the list has a next pixel

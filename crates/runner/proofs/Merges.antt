@@ -8,20 +8,21 @@ use lib.Dec.{T, eqb}
 use lib.ListN.{length, getD, set}
 use Rattle.rules.specs.Base.{if_then_else_}
 use Rattle.rules.specs.Color.{RunnerConfig, ColorSum, _⊕_}
-use Rattle.rules.specs.State.{State, cluster, label, area, relabel, withCluster, merge, deepen}
-use Rattle.rules.specs.Layout.{firstOf, walk}
+use Rattle.rules.specs.State.{State, cluster, label, area, relabel, withCluster, mergeClusterInto, deepenClusterInto}
+use Rattle.rules.specs.Layout.{firstOf, walk, slotWidth, mergedIntoPlace, depthPlace, numHolesPlace}
 use Rattle.rules.specs.Paint.{reads}
-use Rattle.rules.specs.Order.{Queue}
-use Rattle.rules.specs.Ranges.{Fits}
+use Rattle.rules.specs.Code.Order.{Queue}
+use Rattle.rules.specs.Code.Ranges.{Fits}
 use Rattle.rules.proofs.Facts.{eqb-no}
 use Rattle.rules.proofs.Visits.{Near}
 use Rattle.rules.proofs.Visits as visits
 use Rattle.rules.proofs.Holes.{deepen-holes, deepen-t-holes}
+use Rattle.rules.specs.Code.Bounds.{countBound, capacity}
 use Rattle.color.specs.Colors.{sumOf}
 use Rattle.runner.specs.declared.slot.Head.{Head}
-use Rattle.runner.specs.Slots.{Adds, headAt, headOf, savedHead, residueAt, savedResidue}
-use Rattle.runner.specs.Rep.{Rep, linkAfter}
-use Rattle.runner.specs.Ops.{Open, CanAppend, CanMerge, Merged, CanDeepen, Deepened, CanHollow, Hollowed}
+use Rattle.runner.specs.Code.Slots.{Adds, headAt, headOf, savedHead, residueAt, savedResidue}
+use Rattle.runner.specs.Code.Rep.{Rep, linkAfter}
+use Rattle.runner.specs.Code.Ops.{Open, CanAppend, CanMerge, Merged, CanDeepen, Deepened, CanHollow, Hollowed}
 use Rattle.runner.proofs.Ops.{residue-head}
 use Rattle.runner.proofs.Tables.{head-at, residue-at, depth-at, holes-at}
 use Rattle.runner.proofs.RepReads.{root-chain, rep-reads, rep-walk, rep-tail, rep-labels-length, rep-links-length}
@@ -31,7 +32,7 @@ use Rattle.runner.proofs.Moment.{At, going, some-pixels, slot-fits}
 use Rattle.runner.proofs.Stage1Laws.{rep-is}
 
 -- the totals of two clusters of an image fit
-adds : (size : ℕ) → size ≤ 1048576 → (x y : ColorSum) → Fits size x → Fits size y → Adds x y
+adds : (size : ℕ) → size ≤ capacity → (x y : ColorSum) → Fits size x → Fits size y → Adds x y
 adds size l x y F G = record {
   r = omega (arith, F .r, F .count, G .r, G .count);
   g = omega (arith, F .g, F .count, G .g, G .count);
@@ -53,10 +54,10 @@ module _ {o : RunnerConfig} {w h : ℕ} {image : List ℕ} {q : Queue} {k : ℕ}
   own-slot : k < length (q .now .clusters)
   own-slot = A .ready .picked .slot
 
-  all-fit : (n : ℕ) → 21 * (w * h + 1) ≤ n → 21 * length (q .now .clusters) ≤ n
+  all-fit : (n : ℕ) → slotWidth * (w * h + 1) ≤ n → slotWidth * length (q .now .clusters) ≤ n
   all-fit n l = omega (arith, A .ranged .slots)
 
-  module _ {t₀ L K B E : List ℕ} (R : Rep (w * h) (q .now) t₀ L K B E) (fits : 21 * (w * h + 1) ≤ length t₀) where
+  module _ {t₀ L K B E : List ℕ} (R : Rep (w * h) (q .now) t₀ L K B E) (fits : slotWidth * (w * h + 1) ≤ length t₀) where
     head : (j : ℕ) → j < length (q .now .clusters) → headAt B j ≡ headOf (cluster (q .now) j)
     head j l = head-at s (R .tabled) j l
 
@@ -64,7 +65,7 @@ module _ {o : RunnerConfig} {w h : ℕ} {image : List ℕ} {q : Queue} {k : ℕ}
     open-slot j l r = record {
       slot = slot-fits A R fits j l;
       end = omega (arith, R .room, A .ranged .slots);
-      count = subst (λ x. x .count < 2000000) (sym (head j l)) (omega (arith, A .ranged .areas j, A .image-fits .small));
+      count = subst (λ x. x .count < countBound) (sym (head j l)) (omega (arith, A .ranged .areas j, A .image-fits .small));
       tail = subst (λ x. 0 < x .count → (0 < getD E j 0) × (getD E j 0 ≤ length K)) (sym (head j l))
           (λ z. let y = rep-tail (going A .sound .basic) R j z r in (y .0, omega (arith, y .1, rep-links-length (going A .sound .basic) R)));
     }
@@ -104,7 +105,7 @@ module _ {o : RunnerConfig} {w h : ℕ} {image : List ℕ} {q : Queue} {k : ℕ}
       relinks : (y : Head) → y ≡ headOf (cluster (q .now) t) → linkAfter K (y .count) (getD E t 0) (x .first) ≡ linkAfter K (area (cluster (q .now) t)) (getD E t 0) (firstOf (cluster (q .now) k .pixels))
       relinks y d = ap₂ (λ u v. linkAfter K (v .count) (getD E t 0) (u .first)) e d
 
-    pub merged-rep : {L′ K′ B′ E′ : List ℕ} → Merged k t L K B E L′ K′ B′ E′ → Rep (w * h) (merge k t (q .now)) t₀ L′ K′ B′ E′
+    pub merged-rep : {L′ K′ B′ E′ : List ℕ} → Merged k t L K B E L′ K′ B′ E′ → Rep (w * h) (mergeClusterInto k t (q .now)) t₀ L′ K′ B′ E′
     merged-rep {L′} {K′} {B′} {E′} M =
         rep-is (M .combined .labels ∙ relabels x e) (M .combined .links ∙ relinks x e y d) (M .combined .table (cluster s t) (cluster s k) d e) (M .combined .ends ∙ ends-there x e)
         (rep-merge a k s (going A) (some-pixels A) refl t N R (A .ranged .slots) (all-fit (length t₀) fits) (M .r) (M .residue ∙ ap₂ _⊕_ (residue-at s (R .tabled) t target-slot) (residue-at s (R .tabled) k own-slot)))
@@ -121,11 +122,11 @@ module _ {o : RunnerConfig} {w h : ℕ} {image : List ℕ} {q : Queue} {k : ℕ}
         d : headAt (savedResidue B t (M .r)) t ≡ headOf (cluster (q .now) t)
         d = residue-head B t (M .r) t ∙ head t target-slot
 
-    pub deepened-rep : {L′ K′ B′ E′ : List ℕ} → Deepened k t L K B E L′ K′ B′ E′ → Rep (w * h) (deepen false k t (q .now)) t₀ L′ K′ B′ E′
+    pub deepened-rep : {L′ K′ B′ E′ : List ℕ} → Deepened k t L K B E L′ K′ B′ E′ → Rep (w * h) (deepenClusterInto false k t (q .now)) t₀ L′ K′ B′ E′
     deepened-rep {L′} {K′} {B′} {E′} D =
         rep-is (D .labels ∙ relabels (headAt B k) e) (D .links ∙ relinks (headAt B k) e (headAt B t) d)
         (D .table (cluster s t) (cluster s k) d e
-        ∙ ap (λ n. set (set (savedHead B t (headOf (withCluster (cluster s k) (cluster s t)))) (21 * k + 16) t) (21 * t + 17) (n + 1)) (depth-at s (R .tabled) t target-slot))
+        ∙ ap (λ n. set (set (savedHead B t (headOf (withCluster (cluster s k) (cluster s t)))) (slotWidth * k + mergedIntoPlace) t) (slotWidth * t + depthPlace) (n + 1)) (depth-at s (R .tabled) t target-slot))
         (D .ends ∙ ends-there (headAt B k) e)
         (rep-deepen a k s (going A) (some-pixels A) refl t N R (A .ranged .slots) (all-fit (length t₀) fits) (A .holes))
       where
@@ -136,11 +137,11 @@ module _ {o : RunnerConfig} {w h : ℕ} {image : List ℕ} {q : Queue} {k : ℕ}
         d = head t target-slot
 
   -- and a hole child
-  module _ {t₀ L K B E : List ℕ} (R : Rep (w * h) (deepen false k t (q .now)) t₀ L K B E) (fits : 21 * (w * h + 1) ≤ length t₀) where
-    slots : length (deepen false k t (q .now) .clusters) ≡ length (q .now .clusters)
+  module _ {t₀ L K B E : List ℕ} (R : Rep (w * h) (deepenClusterInto false k t (q .now)) t₀ L K B E) (fits : slotWidth * (w * h + 1) ≤ length t₀) where
+    slots : length (deepenClusterInto false k t (q .now) .clusters) ≡ length (q .now .clusters)
     slots = visits.deepen-changes a k s (going A) (some-pixels A) refl t N false .table
 
-    held : t < length (deepen false k t (q .now) .clusters)
+    held : t < length (deepenClusterInto false k t (q .now) .clusters)
     held = omega (arith, slots, target-slot)
 
     pub can-hollow : CanHollow (w * h + 1) k t B E
@@ -153,11 +154,11 @@ module _ {o : RunnerConfig} {w h : ℕ} {image : List ℕ} {q : Queue} {k : ℕ}
           (y .0, omega (arith, y .1, slots, A .ranged .slots, A .image-fits .small), omega (arith, y .0, y .1, slots, A .ranged .slots, R .tabled .long));
     }
       where
-        own : getD B (21 * t + 18) 0 ≡ length (cluster (deepen false k t (q .now)) t .holes)
-        own = holes-at (deepen false k t s) (R .tabled) t held
+        own : getD B (slotWidth * t + numHolesPlace) 0 ≡ length (cluster (deepenClusterInto false k t (q .now)) t .holes)
+        own = holes-at (deepenClusterInto false k t s) (R .tabled) t held
 
-        count : getD B (21 * t + 18) 0 ≡ length (cluster (q .now) t .holes)
+        count : getD B (slotWidth * t + numHolesPlace) 0 ≡ length (cluster (q .now) t .holes)
         count = own ∙ ap length (deepen-t-holes a k s (going A) (some-pixels A) refl t N false)
 
-    pub hollowed-rep : {B′ E′ : List ℕ} → Hollowed (w * h + 1) k t B E B′ E′ → Rep (w * h) (deepen true k t (q .now)) t₀ L K B′ E′
+    pub hollowed-rep : {B′ E′ : List ℕ} → Hollowed (w * h + 1) k t B E B′ E′ → Rep (w * h) (deepenClusterInto true k t (q .now)) t₀ L K B′ E′
     hollowed-rep H = rep-is refl refl (H .table) (H .ends) (rep-hollow a k s (going A) (some-pixels A) refl t N (A .holes) R (A .ranged .slots) (all-fit (length t₀) fits))

@@ -12,7 +12,7 @@ use lib.Dec.{T, eqb, leb, ltb, eqb-refl}
 use lib.ListN.{length, getD, set, length-set}
 use lib.Seq.{getD-set-same, getD-set-other}
 use borrow.Author.Tests.{ltb-true, ltb-false, eqb-true, eqb-false, ne-eqb}
-use Rattle.rules.specs.Base.{if_then_else_, each, member, insert, least}
+use Rattle.rules.specs.Base.{if_then_else_, each, member, insertOnce, least}
 use Rattle.rules.specs.Color.{colorDiff, average}
 use Rattle.rules.specs.Grid.{up, down, left, right, sides}
 use Rattle.rules.specs.State.{State, cluster, label}
@@ -26,38 +26,38 @@ use Rattle.rules.proofs.Interior.{in-member, member-in}
 use Rattle.rules.proofs.Connected.{AllSome}
 use Rattle.rules.proofs.Neighbours.{Rising, least-is, least-unique, all-in, insert-rising}
 use Rattle.runner.specs.declared.cluster.Nearest.{Nearest}
-use Rattle.runner.specs.Slots.{sumAt}
-use Rattle.runner.specs.Neighbours.{placeLabel, diffAt, nearestOf, closer, added, Scan, noted, notedFour, listAt}
+use Rattle.runner.specs.Code.Slots.{sumAt}
+use Rattle.runner.specs.Code.Neighbours.{placeLabel, diffAt, nearestOf, closer, withNeighbour, Scan, noted, notedFour, listAt}
 
 -- ---- a number put into a rising list
 
 -- one that is there already changes nothing
-insert-there : (a : ℕ) (xs : List ℕ) → Rising xs → T (member a xs) → insert a xs ≡ xs
+insert-there : (a : ℕ) (xs : List ℕ) → Rising xs → T (member a xs) → insertOnce a xs ≡ xs
 insert-there a [] r m = absurd m
 insert-there a (x ∷ xs) r m = pick (ltb a x) refl (eqb a x) refl m (insert-there a xs (r .1))
   where
-    pick : (b : Bool) → ltb a x ≡ b → (c : Bool) → eqb a x ≡ c → T (c || member a xs) → (T (member a xs) → insert a xs ≡ xs)
-        → (if b then a ∷ x ∷ xs else (if c then x ∷ xs else x ∷ insert a xs)) ≡ x ∷ xs
+    pick : (b : Bool) → ltb a x ≡ b → (c : Bool) → eqb a x ≡ c → T (c || member a xs) → (T (member a xs) → insertOnce a xs ≡ xs)
+        → (if b then a ∷ x ∷ xs else (if c then x ∷ xs else x ∷ insertOnce a xs)) ≡ x ∷ xs
     pick true e true d t q = absurd (omega (arith, ltb-true a x e, eqb-true a x d))
     pick true e false d t q = absurd (omega (arith, ltb-true a x e, all-in (λ y. x < y) xs (r .0) a (member-in a xs t)))
     pick false e true d t q = refl
     pick false e false d t q = ap (λ ys. x ∷ ys) (q t)
 
-insert-longer : (a : ℕ) (xs : List ℕ) → member a xs ≡ false → length (insert a xs) ≡ length xs + 1
+insert-longer : (a : ℕ) (xs : List ℕ) → member a xs ≡ false → length (insertOnce a xs) ≡ length xs + 1
 insert-longer a [] m = refl
 insert-longer a (x ∷ xs) m = pick (ltb a x) (eqb a x) m (insert-longer a xs)
   where
-    pick : (b c : Bool) → (c || member a xs) ≡ false → (member a xs ≡ false → length (insert a xs) ≡ length xs + 1)
-        → length (if b then a ∷ x ∷ xs else (if c then x ∷ xs else x ∷ insert a xs)) ≡ length (x ∷ xs) + 1
+    pick : (b c : Bool) → (c || member a xs) ≡ false → (member a xs ≡ false → length (insertOnce a xs) ≡ length xs + 1)
+        → length (if b then a ∷ x ∷ xs else (if c then x ∷ xs else x ∷ insertOnce a xs)) ≡ length (x ∷ xs) + 1
     pick true c z q = omega arith
     pick false true z q = absurd (subst T z tt)
     pick false false z q = omega (arith, q z)
 
-insert-other : (j a : ℕ) (xs : List ℕ) → j ≢ a → member j (insert a xs) ≡ member j xs
+insert-other : (j a : ℕ) (xs : List ℕ) → j ≢ a → member j (insertOnce a xs) ≡ member j xs
 insert-other j a [] n = rw (ne-eqb j a n)
 insert-other j a (x ∷ xs) n = pick (ltb a x) (eqb a x) (insert-other j a xs n)
   where
-    pick : (b c : Bool) → member j (insert a xs) ≡ member j xs → member j (if b then a ∷ x ∷ xs else (if c then x ∷ xs else x ∷ insert a xs)) ≡ member j (x ∷ xs)
+    pick : (b c : Bool) → member j (insertOnce a xs) ≡ member j xs → member j (if b then a ∷ x ∷ xs else (if c then x ∷ xs else x ∷ insertOnce a xs)) ≡ member j (x ∷ xs)
     pick true c q = rw (ne-eqb j a n)
     pick false true q = refl
     pick false false q = ap (λ b. eqb j x || b) q
@@ -104,17 +104,17 @@ closer-no n l d t e = pick (eqb (suc n) 0) (ltb d e) refl (eqb d e) refl (ltb l 
     pick false false q false r f s z = inl (omega (arith, ltb-false d e q, eqb-false d e r))
 
 -- one more neighbour
-nearest-added : (key : ℕ → ℕ) (l : ℕ) (xs : List ℕ) → Rising xs → member l xs ≡ false → nearestOf key (insert l xs) ≡ added (nearestOf key xs) l (key l)
-unfolding added
+nearest-added : (key : ℕ → ℕ) (l : ℕ) (xs : List ℕ) → Rising xs → member l xs ≡ false → nearestOf key (insertOnce l xs) ≡ withNeighbour (nearestOf key xs) l (key l)
+unfolding withNeighbour
 nearest-added key l [] r m = refl
 nearest-added key l (x ∷ xs) r m = pick (closer (nearestOf key (x ∷ xs)) l (key l)) refl
   where
     t : ℕ
     t = least key x xs
 
-    is : (u : ℕ) → In u (insert l (x ∷ xs)) → Before key u l → Before key u t → nearestOf key (insert l (x ∷ xs)) ≡ record { count = length (x ∷ xs) + 1; target = u; diff = key u }
+    is : (u : ℕ) → In u (insertOnce l (x ∷ xs)) → Before key u l → Before key u t → nearestOf key (insertOnce l (x ∷ xs)) ≡ record { count = length (x ∷ xs) + 1; target = u; diff = key u }
     is u i b c =
-        nearest-is key u (insert l (x ∷ xs)) (insert-rising l (x ∷ xs) r) i (λ j k. side j (insert-from j l (x ∷ xs) k))
+        nearest-is key u (insertOnce l (x ∷ xs)) (insert-rising l (x ∷ xs) r) i (λ j k. side j (insert-from j l (x ∷ xs) k))
         ∙ ap (λ n. record { count = n; target = u; diff = key u }) (insert-longer l (x ∷ xs) m)
       where
         side : (j : ℕ) → (j ≡ l) ⊎ In j (x ∷ xs) → Before key u j
@@ -122,7 +122,7 @@ nearest-added key l (x ∷ xs) r m = pick (closer (nearestOf key (x ∷ xs)) l (
         side j (inr k) = before-trans key u t j c (least-is key x xs r .1 j k)
 
     pick : (b : Bool) → closer (nearestOf key (x ∷ xs)) l (key l) ≡ b
-        → nearestOf key (insert l (x ∷ xs)) ≡ (if b then record { count = length (x ∷ xs) + 1; target = l; diff = key l } else record { count = length (x ∷ xs) + 1; target = t; diff = key t })
+        → nearestOf key (insertOnce l (x ∷ xs)) ≡ (if b then record { count = length (x ∷ xs) + 1; target = l; diff = key l } else record { count = length (x ∷ xs) + 1; target = t; diff = key t })
     pick true e = is l (insert-new l (x ∷ xs)) (before-same key l l refl) (closer-yes (length xs) l (key l) t (key t) e)
     pick false e = is t (insert-old t l (x ∷ xs) (least-is key x xs r .0)) (closer-no (length xs) l (key l) t (key t) e) (before-same key t t refl)
 
@@ -157,7 +157,7 @@ neighbours-nearest w h s k labels links table a b c d e =
 
 -- the labels found so far, with l
 abbrev pub found-with : ℕ → ℕ → List ℕ → List ℕ
-found-with own l found = if eqb l 0 || eqb l own then found else insert l found
+found-with own l found = if eqb l 0 || eqb l own then found else insertOnce l found
 
 -- the labels found so far are those marked in this visit, and what is known of them is what the rules say
 pub record Holds (key : ℕ → ℕ) (visit : ℕ) (s : Scan) (found : List ℕ) : Type 0 where
@@ -172,13 +172,13 @@ module _ (key : ℕ → ℕ) (own visit : ℕ) where
   noted-length l s = pick (eqb l 0 || eqb l own) (eqb (getD (s .marks) l 0) visit)
     where
       pick : (a b : Bool)
-          → length ((if a then s else (if b then s else record { marks = set (s .marks) l visit; nearest = added (s .nearest) l (key l) })) .marks) ≡ length (s .marks)
+          → length ((if a then s else (if b then s else record { marks = set (s .marks) l visit; nearest = withNeighbour (s .nearest) l (key l) })) .marks) ≡ length (s .marks)
       pick true b = refl
       pick false true = refl
       pick false false = length-set (s .marks) l visit
 
   pub noted-count : (l : ℕ) (s : Scan) → noted key own visit l s .nearest .count ≤ s .nearest .count + 1
-  unfolding noted added
+  unfolding noted withNeighbour
   noted-count l s = pick (eqb l 0 || eqb l own) (eqb (getD (s .marks) l 0) visit) (closer (s .nearest) l (key l))
     where
       more : Bool → Nearest
@@ -195,25 +195,25 @@ module _ (key : ℕ → ℕ) (own visit : ℕ) where
   noted-holds l s found fits H = pick (eqb l 0) refl (eqb l own) (eqb (getD (s .marks) l 0) visit) refl
     where
       new : Scan
-      new = record { marks = set (s .marks) l visit; nearest = added (s .nearest) l (key l) }
+      new = record { marks = set (s .marks) l visit; nearest = withNeighbour (s .nearest) l (key l) }
 
-      fresh : l < length (s .marks) → member l found ≡ false → Holds key visit new (insert l found)
+      fresh : l < length (s .marks) → member l found ≡ false → Holds key visit new (insertOnce l found)
       fresh inside m = record {
         rising = insert-rising l found (H .rising);
         marked = λ j. mark j (ℕ-discrete j l);
         low = λ j. under j (ℕ-discrete j l);
-        right = ap (λ f. added f l (key l)) (H .right) ∙ sym (nearest-added key l found (H .rising) m);
+        right = ap (λ f. withNeighbour f l (key l)) (H .right) ∙ sym (nearest-added key l found (H .rising) m);
       }
         where
-          mark : (j : ℕ) → Dec (j ≡ l) → eqb (getD (set (s .marks) l visit) j 0) visit ≡ member j (insert l found)
-          mark j (yes e) = rw (e, getD-set-same (s .marks) l visit 0 inside) (is-true (eqb visit visit) (eqb-refl visit) ∙ sym (is-true (member l (insert l found)) (in-member l (insert l found) (insert-new l found))))
+          mark : (j : ℕ) → Dec (j ≡ l) → eqb (getD (set (s .marks) l visit) j 0) visit ≡ member j (insertOnce l found)
+          mark j (yes e) = rw (e, getD-set-same (s .marks) l visit 0 inside) (is-true (eqb visit visit) (eqb-refl visit) ∙ sym (is-true (member l (insertOnce l found)) (in-member l (insertOnce l found) (insert-new l found))))
           mark j (no n) = rw (getD-set-other (s .marks) l j visit 0 n, insert-other j l found n) (H .marked j)
 
           under : (j : ℕ) → Dec (j ≡ l) → getD (set (s .marks) l visit) j 0 ≤ visit
           under j (yes e) = rw (e, getD-set-same (s .marks) l visit 0 inside) (omega arith)
           under j (no n) = rw (getD-set-other (s .marks) l j visit 0 n) (H .low j)
 
-      pick : (a : Bool) → eqb l 0 ≡ a → (b c : Bool) → eqb (getD (s .marks) l 0) visit ≡ c → Holds key visit (if a || b then s else (if c then s else new)) (if a || b then found else insert l found)
+      pick : (a : Bool) → eqb l 0 ≡ a → (b c : Bool) → eqb (getD (s .marks) l 0) visit ≡ c → Holds key visit (if a || b then s else (if c then s else new)) (if a || b then found else insertOnce l found)
       pick true e b c d = H
       pick false e true c d = H
       pick false e false true d = rw (insert-there l found (H .rising) (subst T (sym (sym (H .marked l) ∙ d)) tt)) H

@@ -7,16 +7,17 @@ use native.Mathlib.Decide.{decLt}
 use native.Mathlib.Omega.{arith}
 use lib.Dec.{lit<}
 use lib.ListN.{getD}
+use Rattle.rules.specs.Layout.{slotWidth}
 use Rattle.color.specs.declared.ColorSum.{ColorSum}
-use Rattle.runner.specs.Slots.{headAt, residueNumbers, savedResidue}
-use Rattle.runner.specs.Ops.{Open, CanAppend}
+use Rattle.runner.specs.Code.Slots.{headAt, residueNumbers, savedResidue}
+use Rattle.runner.specs.Code.Ops.{Open, CanAppend}
 use Rattle.runner.proofs.Tables.{store-out, residue-length}
 
 module _ (B : List ℕ) (t : ℕ) (r : ColorSum) where
   -- a saved residue leaves the first eleven numbers of every slot
-  head-number : (k f : ℕ) → f < 11 → getD (savedResidue B t r) (21 * k + f) 0 ≡ getD B (21 * k + f) 0
+  head-number : (k f : ℕ) → f < 11 → getD (savedResidue B t r) (slotWidth * k + f) 0 ≡ getD B (slotWidth * k + f) 0
   unfolding savedResidue
-  head-number k f h = store-out B (21 * t) 11 (residueNumbers r) (21 * k + f) (elim (decLt t k) [ yes l ↦ inr (omega arith) | no l ↦ inl (omega arith) ])
+  head-number k f h = store-out B (slotWidth * t) 11 (residueNumbers r) (slotWidth * k + f) (elim (decLt t k) [ yes l ↦ inr (omega arith) | no l ↦ inl (omega arith) ])
 
   pub residue-head : (k : ℕ) → headAt (savedResidue B t r) k ≡ headAt B k
   unfolding headAt

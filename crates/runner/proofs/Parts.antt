@@ -6,7 +6,7 @@ use native.Mathlib.Omega.{arith}
 use lib.ListN.{length, getD, set, take, drop, length-set, length-append, length-take, length-drop, List·getD-append}
 use lib.Seq.{length-take-le, getD-append-add, getD-take, getD-drop, getD-set-other, take-at, drop-at, ext-getD}
 use borrow.Rule.Slice.PartMut.{mid-len}
-use Rattle.runner.specs.Stage2.{part, withPart}
+use Rattle.runner.specs.Code.Stage2.{part, withPart}
 
 -- parts of lists of one length are the same where their numbers are
 pub part-ext : (u v : List ℕ) (b e : ℕ) → length u ≡ length v → ((i : ℕ) → b ≤ i → i < e → getD u i 0 ≡ getD v i 0) → part u b e ≡ part v b e

@@ -11,9 +11,9 @@ use lib.ListN.{length, getD, set, replicate, length-set, length-append, List·ge
 use lib.Seq.{getD-set-same, getD-set-other, getD-append-seam, getD-append-add, set-set, set-append-seam}
 use Rattle.rules.specs.Base.{if_then_else_}
 use Rattle.rules.specs.State.{State, Cluster, newCluster, cluster}
-use Rattle.rules.specs.Layout.{after, firstOf, sumNumbers, slot}
-use Rattle.runner.specs.Slots.{headNumbers, headOf, savedHead, clearedSlot}
-use Rattle.runner.specs.Rep.{Table, written, slotsOf}
+use Rattle.rules.specs.Layout.{after, firstOf, sumNumbers, slot, slotWidth}
+use Rattle.runner.specs.Code.Slots.{headNumbers, headOf, savedHead, clearedSlot}
+use Rattle.runner.specs.Code.Rep.{Table, written, slotsOf}
 use Rattle.runner.proofs.Tables.{written-in, written-out, table-head, table-clear, table-new, table-same}
 
 -- numbers 11 to 20
@@ -47,7 +47,7 @@ rest-number c d f l e =
     q : 11 + (f - 11) ≡ f
     q = omega arith
 
-new-number : (f : ℕ) → getD (replicate 21 0) f 0 ≡ numberOf newCluster f
+new-number : (f : ℕ) → getD (replicate slotWidth 0) f 0 ≡ numberOf newCluster f
 unfolding numberOf restOf sumNumbers firstOf
 new-number f = refl
 
@@ -76,7 +76,7 @@ module _ (s : State) (none : (k : ℕ) → cluster s k .holes ≡ []) where
 
 module _ {t₀ : List ℕ} {cs : List Cluster} {t : List ℕ} (H : Plain t₀ cs t) where
   -- the head of slot k is saved
-  pub plain-head : (k : ℕ) (c : Cluster) → k < length cs → 21 * length cs ≤ length t₀ → restOf c ≡ restOf (getD cs k newCluster) → Plain t₀ (set cs k c) (savedHead t k (headOf c))
+  pub plain-head : (k : ℕ) (c : Cluster) → k < length cs → slotWidth * length cs ≤ length t₀ → restOf c ≡ restOf (getD cs k newCluster) → Plain t₀ (set cs k c) (savedHead t k (headOf c))
   plain-head k c l room e = record {
     tabled = subst (λ n. Table n (plainOf (set cs k c)) t₀ (savedHead t k (headOf c))) (sym (length-set cs k c))
         (table-same (table-head (H .tabled) k (headOf c) l room) (λ i f a b. at i f (ℕ-discrete i k) (decLt f 11)));
@@ -94,13 +94,13 @@ module _ {t₀ : List ℕ} {cs : List Cluster} {t : List ℕ} (H : Plain t₀ cs
           ∙ rest-number (getD cs k newCluster) c f (omega arith) (sym e) ∙ ap (λ x. numberOf x f) (sym (here i q))
 
   zeros-at : (cs′ : List Cluster) (k : ℕ) → getD cs′ k newCluster ≡ newCluster → ((j : ℕ) → j ≢ k → getD cs′ j newCluster ≡ getD cs j newCluster)
-      → (i f : ℕ) → f < 21 → Dec (i ≡ k) → written (plainOf cs) k 0 (replicate 21 0) i f ≡ plainOf cs′ i f
+      → (i f : ℕ) → f < slotWidth → Dec (i ≡ k) → written (plainOf cs) k 0 (replicate slotWidth 0) i f ≡ plainOf cs′ i f
   zeros-at cs′ k here other i f l (yes q) =
-      written-first (plainOf cs) k (replicate 21 0) i f q l ∙ new-number f ∙ ap (λ x. numberOf x f) (sym (ap (λ m. getD cs′ m newCluster) q ∙ here))
-  zeros-at cs′ k here other i f l (no d) = written-out (plainOf cs) k 0 (replicate 21 0) i f (inl d) ∙ ap (λ x. numberOf x f) (sym (other i d))
+      written-first (plainOf cs) k (replicate slotWidth 0) i f q l ∙ new-number f ∙ ap (λ x. numberOf x f) (sym (ap (λ m. getD cs′ m newCluster) q ∙ here))
+  zeros-at cs′ k here other i f l (no d) = written-out (plainOf cs) k 0 (replicate slotWidth 0) i f (inl d) ∙ ap (λ x. numberOf x f) (sym (other i d))
 
   -- slot k is cleared
-  pub plain-clear : (k : ℕ) → k < length cs → 21 * length cs ≤ length t₀ → Plain t₀ (set cs k newCluster) (clearedSlot t k)
+  pub plain-clear : (k : ℕ) → k < length cs → slotWidth * length cs ≤ length t₀ → Plain t₀ (set cs k newCluster) (clearedSlot t k)
   plain-clear k l room = record {
     tabled = subst (λ n. Table n (plainOf (set cs k newCluster)) t₀ (clearedSlot t k)) (sym (length-set cs k newCluster))
         (table-same (table-clear (H .tabled) k l room)
@@ -108,7 +108,7 @@ module _ {t₀ : List ℕ} {cs : List Cluster} {t : List ℕ} (H : Plain t₀ cs
   }
 
   -- a slot more
-  pub plain-new : 21 * (length cs + 1) ≤ length t₀ → Plain t₀ (cs ++ (newCluster ∷ [])) (clearedSlot t (length cs))
+  pub plain-new : slotWidth * (length cs + 1) ≤ length t₀ → Plain t₀ (cs ++ (newCluster ∷ [])) (clearedSlot t (length cs))
   plain-new room = record {
     tabled = subst (λ n. Table n (plainOf (cs ++ (newCluster ∷ []))) t₀ (clearedSlot t (length cs))) (omega (arith, longer))
         (table-same (table-new (H .tabled) room)
@@ -121,7 +121,7 @@ module _ {t₀ : List ℕ} {cs : List Cluster} {t : List ℕ} (H : Plain t₀ cs
       longer = length-append cs (newCluster ∷ [])
 
 -- slot k, of the table or the next after it, begins a cluster
-pub plain-begin : {t₀ : List ℕ} {cs : List Cluster} {t : List ℕ} → Plain t₀ cs t → (k : ℕ) (c : Cluster) → k ≤ length cs → 21 * (length cs + 1) ≤ length t₀ → restOf c ≡ restOf newCluster
+pub plain-begin : {t₀ : List ℕ} {cs : List Cluster} {t : List ℕ} → Plain t₀ cs t → (k : ℕ) (c : Cluster) → k ≤ length cs → slotWidth * (length cs + 1) ≤ length t₀ → restOf c ≡ restOf newCluster
     → Plain t₀ (if ltb k (length cs) then set cs k c else cs ++ (c ∷ [])) (savedHead (clearedSlot t k) k (headOf c))
 plain-begin {t₀} {cs} {t} H k c l room e = pick (ltb k (length cs)) refl
   where

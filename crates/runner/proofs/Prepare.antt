@@ -11,19 +11,19 @@ use lib.ListN.{length, getD, drop, length-set, drop-of-length-le}
 use lib.Seq.{drop-cons, getD-set-same, getD-set-other}
 use Rattle.rules.specs.Base.{if_then_else_}
 use Rattle.rules.specs.State.{State, Cluster, newCluster, cluster, area}
-use Rattle.rules.specs.Layout.{sumNumbers, slot}
+use Rattle.rules.specs.Layout.{sumNumbers, slot, slotWidth}
 use Rattle.rules.specs.Stage2.{prepareStage2}
-use Rattle.rules.specs.Order.{largest}
-use Rattle.runner.specs.Slots.{headAt}
-use Rattle.runner.specs.Rep.{Table, slotsOf}
-use Rattle.runner.specs.Queue.{stored}
-use Rattle.runner.specs.Stage2.{PreparedSlot, Prepared}
+use Rattle.rules.specs.Code.Order.{largest}
+use Rattle.runner.specs.Code.Slots.{headAt}
+use Rattle.runner.specs.Code.Rep.{Table, slotsOf}
+use Rattle.runner.specs.Code.Queue.{queueKey}
+use Rattle.runner.specs.Code.Stage2.{PreparedSlot, Prepared}
 use Rattle.runner.proofs.RepStage2.{preparing, prepare-start, prepare-end, prepare-head-sum, prepare-step}
 
 -- table B holds the n slots of s, which t₀ has room for
 pub record Held (n : ℕ) (B : List ℕ) (s : State) (t₀ : List ℕ) : Type 0 where
   pub slots : n ≡ length (s .clusters)
-  pub room : 21 * n ≤ length t₀
+  pub room : slotWidth * n ≤ length t₀
   pub table : Table n (slotsOf s) t₀ B
 
 -- The slots below k are prepared, and r is their largest pixel count: with what the slots from k on have it gives the largest of all.
@@ -33,7 +33,7 @@ pub record Preparing (n : ℕ) (B₀ Q₀ B Q : List ℕ) (k r : ℕ) : Type 0 w
   pub long : length B ≡ length B₀
   pub same : length Q ≡ length Q₀
   pub state : (s : State) (t₀ : List ℕ) → Held n B₀ s t₀ → Table n (preparing s k) t₀ B
-  pub keys : (s : State) (t₀ : List ℕ) → Held n B₀ s t₀ → (j : ℕ) → j < k → getD Q j 0 ≡ stored (area (cluster s j))
+  pub keys : (s : State) (t₀ : List ℕ) → Held n B₀ s t₀ → (j : ℕ) → j < k → getD Q j 0 ≡ queueKey (area (cluster s j))
   pub rest : (j : ℕ) → k ≤ j → getD Q j 0 ≡ getD Q₀ j 0
   pub most : (s : State) (t₀ : List ℕ) → Held n B₀ s t₀ → max r (largest (drop k (s .clusters))) ≡ largest (s .clusters)
 
@@ -74,7 +74,7 @@ prepare-next {n} {B₀} {Q₀} {B} {Q} {B′} {Q′} {k} {r} {r′} I l same′ 
   state = λ s t₀ H. subst (λ t. Table n (preparing s (k + 1)) t₀ t) (sym (P .table))
       (rw add-one (prepare-step s k (I .state s t₀ H) l (H .room) (headAt B k .sum) (prepare-head-sum s k (I .state s t₀ H) l)));
   keys = λ s t₀ H j m. key s t₀ H j m (ℕ-discrete j k);
-  rest = λ j m. ap (λ q. getD q j 0) (P .queue) ∙ getD-set-other Q k j (stored (headAt B k .count)) 0 (λ z. omega arith) ∙ I .rest j (omega arith);
+  rest = λ j m. ap (λ q. getD q j 0) (P .queue) ∙ getD-set-other Q k j (queueKey (headAt B k .count)) 0 (λ z. omega arith) ∙ I .rest j (omega arith);
   most = λ s t₀ H. omega (
     arith,
     P .larger,
@@ -87,11 +87,11 @@ prepare-next {n} {B₀} {Q₀} {B} {Q} {B′} {Q′} {k} {r} {r′} I l same′ 
     long′ : length Q′ ≡ length Q
     long′ = ap length (P .queue) ∙ simp length-set
 
-    key : (s : State) (t₀ : List ℕ) → Held n B₀ s t₀ → (j : ℕ) → j < k + 1 → Dec (j ≡ k) → getD Q′ j 0 ≡ stored (area (cluster s j))
-    key s t₀ H j m (yes z) = subst (λ i. getD Q′ i 0 ≡ stored (area (cluster s i))) (sym z)
-        (ap (λ q. getD q k 0) (P .queue) ∙ getD-set-same Q k (stored (headAt B k .count)) 0 (omega (arith, I .wide)) ∙ ap stored (prepare-count s k (I .state s t₀ H) l))
+    key : (s : State) (t₀ : List ℕ) → Held n B₀ s t₀ → (j : ℕ) → j < k + 1 → Dec (j ≡ k) → getD Q′ j 0 ≡ queueKey (area (cluster s j))
+    key s t₀ H j m (yes z) = subst (λ i. getD Q′ i 0 ≡ queueKey (area (cluster s i))) (sym z)
+        (ap (λ q. getD q k 0) (P .queue) ∙ getD-set-same Q k (queueKey (headAt B k .count)) 0 (omega (arith, I .wide)) ∙ ap queueKey (prepare-count s k (I .state s t₀ H) l))
     key s t₀ H j m (no z) =
-        ap (λ q. getD q j 0) (P .queue) ∙ getD-set-other Q k j (stored (headAt B k .count)) 0 z ∙ I .keys s t₀ H j (omega arith)
+        ap (λ q. getD q j 0) (P .queue) ∙ getD-set-other Q k j (queueKey (headAt B k .count)) 0 z ∙ I .keys s t₀ H j (omega arith)
 
 pub prepare-done : {n : ℕ} {B₀ Q₀ B Q : List ℕ} {k r : ℕ} → Preparing n B₀ Q₀ B Q k r → n ≤ k → Prepared n B₀ Q₀ B Q r
 prepare-done {n} {B₀} {Q₀} {B} {Q} {k} {r} I l = record {
@@ -104,5 +104,5 @@ prepare-done {n} {B₀} {Q₀} {B} {Q} {k} {r} I l = record {
     all : k ≡ n
     all = omega (arith, I .inside)
 
-    held : (s : State) (t₀ : List ℕ) → n ≡ length (s .clusters) → 21 * n ≤ length t₀ → Table n (slotsOf s) t₀ B₀ → Held n B₀ s t₀
+    held : (s : State) (t₀ : List ℕ) → n ≡ length (s .clusters) → slotWidth * n ≤ length t₀ → Table n (slotsOf s) t₀ B₀ → Held n B₀ s t₀
     held s t₀ e f U = record { slots = e; room = f; table = U }

@@ -10,15 +10,15 @@ use lib.Dec.{eqb, lit≤, lit<}
 use lib.ListN.{length, getD, set, length-set, length-append}
 use lib.Seq.{getD-set-same, getD-set-other}
 use Rattle.rules.specs.Base.{if_then_else_}
-use Rattle.rules.specs.State.{State, Cluster, cluster, label, area, withCluster, deeper, deepen}
-use Rattle.rules.specs.Layout.{after, firstOf, slot}
+use Rattle.rules.specs.State.{State, Cluster, cluster, label, area, withCluster, deeper, deepenClusterInto}
+use Rattle.rules.specs.Layout.{after, firstOf, slot, slotWidth, numHolesPlace, firstHolePlace, nextHolePlace}
 use Rattle.rules.specs.Claim.{bit, occurs}
 use Rattle.rules.proofs.Facts.{eqb-no, occurs-append}
 use Rattle.rules.proofs.Links.{last, after-none, after-skip, after-last, after-before}
 use Rattle.rules.proofs.Visits.{Going, Near, root, k≢t, t-slot, target-root, deepen-changes, deepen-from, deepen-to}
 use Rattle.rules.proofs.Holes.{Holes, root-unnamed, child-slot, deepen-t-holes, deepen-other-into, deepen-into}
-use Rattle.runner.specs.Slots.{store}
-use Rattle.runner.specs.Rep.{Table, Rep, lastOf, written, slotsOf}
+use Rattle.runner.specs.Code.Slots.{setNumbers}
+use Rattle.runner.specs.Code.Rep.{Table, Rep, lastOf, written, slotsOf}
 use Rattle.runner.proofs.Tables.{table-set, holes-at}
 use Rattle.runner.proofs.Rows.{row-in, row-out, numbers, row, nextHole, slot-is, slot-row, Fills, table-fills}
 use Rattle.runner.proofs.RepStage2.{links-same}
@@ -39,10 +39,10 @@ module _ {image : List ℕ} {size : ℕ} (a f : ℕ) (s : State) (G : Going imag
 
   -- without its hole, and with it
   abbrev bare : State
-  bare = deepen false f t s
+  bare = deepenClusterInto false f t s
 
   abbrev holed : State
-  holed = deepen true f t s
+  holed = deepenClusterInto true f t s
 
   abbrev hs : List ℕ
   hs = cluster s t .holes
@@ -131,7 +131,7 @@ module _ {image : List ℕ} {size : ℕ} (a f : ℕ) (s : State) (G : Going imag
         ap (λ j. after (last hs) (cluster holed j .holes)) (deepen-other-into a f s G pos e t N true (last hs) q≢f ∙ q-into) ∙ ap (after (last hs)) is
         ∙ after-last hs (f ∷ []) (omega (arith, q-named, H .once t (last hs))) ∙ omega arith
 
-  module _ {t₀ ls ks tb es : List ℕ} (R : Rep size (deepen false f t s) t₀ ls ks tb es) (few : length (s .clusters) ≤ size + 1) (fits : 21 * length (s .clusters) ≤ length t₀) where
+  module _ {t₀ ls ks tb es : List ℕ} (R : Rep size (deepenClusterInto false f t s) t₀ ls ks tb es) (few : length (s .clusters) ≤ size + 1) (fits : slotWidth * length (s .clusters) ≤ length t₀) where
     held : length (bare .clusters) ≡ length (s .clusters)
     held = deepen-changes a f s G pos e t N false .table
 
@@ -139,9 +139,9 @@ module _ {image : List ℕ} {size : ℕ} (a f : ℕ) (s : State) (G : Going imag
     start = subst (λ m. Table m (slotsOf bare) t₀ tb) held (R .tabled)
 
     abbrev at : ℕ → ℕ
-    at x = if eqb x 0 then 21 * t + 19 else 21 * (getD es (size + 1 + t) 0 - 1) + 20
+    at x = if eqb x 0 then slotWidth * t + firstHolePlace else slotWidth * (getD es (size + 1 + t) 0 - 1) + nextHolePlace
 
-    table-is : (xs : List ℕ) → hs ≡ xs → Table (length (s .clusters)) (slotsOf holed) t₀ (set (set tb (21 * t + 18) (length xs + 1)) (at (length xs)) (f + 1))
+    table-is : (xs : List ℕ) → hs ≡ xs → Table (length (s .clusters)) (slotsOf holed) t₀ (set (set tb (slotWidth * t + numHolesPlace) (length xs + 1)) (at (length xs)) (f + 1))
     unfolding firstOf
     table-is [] z = table-fills holed (table-set (table-set start t 18 1 t-in (lit< tt) fits) t 19 (f + 1) t-in (lit< tt) fits) (λ k l. fills k (ℕ-discrete k t))
       where
@@ -150,13 +150,13 @@ module _ {image : List ℕ} {size : ℕ} (a f : ℕ) (s : State) (G : Going imag
 
         fills : (k : ℕ) → Dec (k ≡ t) → Fills σ holed k
         fills k (yes y) = subst (Fills σ holed) (sym y) (
-          store (store (row bare t) 0 18 (1 ∷ [])) 0 19 ((f + 1) ∷ []),
+          setNumbers (setNumbers (row bare t) 0 18 (1 ∷ [])) 0 19 ((f + 1) ∷ []),
           row-in 19 ((f + 1) ∷ []) (lit≤ tt) (row-in 18 (1 ∷ []) (lit≤ tt) (slot-row bare t)),
           t-is 1 (f + 1) (ap (λ l. length (l ++ (f ∷ []))) z) (ap (λ l. firstOf (l ++ (f ∷ []))) z ∙ omega arith),
         )
         fills k (no y) = (row bare k, row-out t 19 ((f + 1) ∷ []) y (row-out t 18 (1 ∷ []) y (slot-row bare k)), o-is k y (λ x. absurd (x (ap (occurs k) z))))
     table-is (x ∷ xs) z =
-        subst (λ i. Table (length (s .clusters)) (slotsOf holed) t₀ (set (set tb (21 * t + 18) (length (x ∷ xs) + 1)) i (f + 1))) (sym place)
+        subst (λ i. Table (length (s .clusters)) (slotsOf holed) t₀ (set (set tb (slotWidth * t + numHolesPlace) (length (x ∷ xs) + 1)) i (f + 1))) (sym place)
         (table-fills holed (table-set (table-set start t 18 (length (x ∷ xs) + 1) t-in (lit< tt) fits) q 20 (f + 1) (child-slot H t q (q-named some)) (lit< tt) fits) (λ k l. fills k (ℕ-discrete k t) (ℕ-discrete k q)))
       where
         some : 0 < length hs
@@ -168,20 +168,20 @@ module _ {image : List ℕ} {size : ℕ} (a f : ℕ) (s : State) (G : Going imag
         tail : getD es (size + 1 + t) 0 - 1 ≡ q
         tail = omega (arith, R .hole-tails t (omega (arith, ap length was, some)), ap lastOf was, lastOf-last hs some)
 
-        place : at (length (x ∷ xs)) ≡ 21 * q + 20
-        place = ap (λ b. if b then 21 * t + 19 else 21 * (getD es (size + 1 + t) 0 - 1) + 20) (eqb-no (length (x ∷ xs)) 0 (λ y. omega arith)) ∙ ap (λ i. 21 * i + 20) tail
+        place : at (length (x ∷ xs)) ≡ slotWidth * q + nextHolePlace
+        place = ap (λ b. if b then slotWidth * t + firstHolePlace else slotWidth * (getD es (size + 1 + t) 0 - 1) + nextHolePlace) (eqb-no (length (x ∷ xs)) 0 (λ y. omega arith)) ∙ ap (λ i. slotWidth * i + nextHolePlace) tail
 
         σ : ℕ → ℕ → ℕ
         σ = written (written (slotsOf bare) t 18 ((length (x ∷ xs) + 1) ∷ [])) q 20 ((f + 1) ∷ [])
 
         fills : (k : ℕ) → Dec (k ≡ t) → Dec (k ≡ q) → Fills σ holed k
         fills k (yes y) v = subst (Fills σ holed) (sym y) (
-          store (row bare t) 0 18 ((length (x ∷ xs) + 1) ∷ []),
+          setNumbers (row bare t) 0 18 ((length (x ∷ xs) + 1) ∷ []),
           row-out q 20 ((f + 1) ∷ []) (λ w. q≢t some (sym w)) (row-in 18 ((length (x ∷ xs) + 1) ∷ []) (lit≤ tt) (slot-row bare t)),
           t-is (length (x ∷ xs) + 1) (firstOf (cluster bare t .holes)) (length-append hs (f ∷ []) ∙ ap (λ l. length l + 1) z) (firstOf-append hs (f ∷ []) some ∙ sym (ap firstOf was)),
         )
         fills k (no y) (yes v) = subst (Fills σ holed) (sym v) (
-          store (row bare q) 0 20 ((f + 1) ∷ []),
+          setNumbers (row bare q) 0 20 ((f + 1) ∷ []),
           row-in 20 ((f + 1) ∷ []) (lit≤ tt) (row-out t 18 ((length (x ∷ xs) + 1) ∷ []) (q≢t some) (slot-row bare q)),
           sym (slot-is holed q (cluster bare q) (f + 1) (same-cluster q (q≢t some)) (q-next some)),
         )
@@ -192,14 +192,14 @@ module _ {image : List ℕ} {size : ℕ} (a f : ℕ) (s : State) (G : Going imag
         )
 
     -- with the numbers that the code reads: how many children t has, and the last of them
-    pub rep-hollow : Rep size (deepen true f t s) t₀ ls ks
-        (set (set tb (21 * t + 18) (getD tb (21 * t + 18) 0 + 1)) (if eqb (getD tb (21 * t + 18) 0) 0 then 21 * t + 19 else 21 * (getD es (size + 1 + t) 0 - 1) + 20) (f + 1))
+    pub rep-hollow : Rep size (deepenClusterInto true f t s) t₀ ls ks
+        (set (set tb (slotWidth * t + numHolesPlace) (getD tb (slotWidth * t + numHolesPlace) 0 + 1)) (if eqb (getD tb (slotWidth * t + numHolesPlace) 0) 0 then slotWidth * t + firstHolePlace else slotWidth * (getD es (size + 1 + t) 0 - 1) + nextHolePlace) (f + 1))
         (set es (size + 1 + t) (f + 1))
     unfolding lastOf
     rep-hollow = record {
       labelled = R .labelled ∙ same-labels;
       linked = R .linked ∙ links-same bare holed same-labels (λ k. sym (same-pixels k));
-      tabled = subst (λ m. Table m (slotsOf holed) t₀ (tb′ (getD tb (21 * t + 18) 0))) (sym whole) (subst (λ x. Table (length (s .clusters)) (slotsOf holed) t₀ (tb′ x)) (sym count) (table-is hs refl));
+      tabled = subst (λ m. Table m (slotsOf holed) t₀ (tb′ (getD tb (slotWidth * t + numHolesPlace) 0))) (sym whole) (subst (λ x. Table (length (s .clusters)) (slotsOf holed) t₀ (tb′ x)) (sym count) (table-is hs refl));
       tails = λ k z y. getD-set-other es (size + 1 + t) k (f + 1) 0 (λ v. omega (arith, area-slot holed k z, whole)) ∙ R .tails k (subst (λ l. 0 < length l) (same-pixels k) z) (sym (same-into k) ∙ y) ∙ sym (ap lastOf (same-pixels k));
       hole-tails = λ k. hole-tail k (ℕ-discrete k t);
       room = length-set es (size + 1 + t) (f + 1) ∙ R .room;
@@ -209,9 +209,9 @@ module _ {image : List ℕ} {size : ℕ} (a f : ℕ) (s : State) (G : Going imag
         whole = deepen-changes a f s G pos e t N true .table
 
         tb′ : ℕ → List ℕ
-        tb′ x = set (set tb (21 * t + 18) (x + 1)) (at x) (f + 1)
+        tb′ x = set (set tb (slotWidth * t + numHolesPlace) (x + 1)) (at x) (f + 1)
 
-        count : getD tb (21 * t + 18) 0 ≡ length hs
+        count : getD tb (slotWidth * t + numHolesPlace) 0 ≡ length hs
         count = holes-at bare start t t-in ∙ ap length was
 
         hole-tail : (k : ℕ) → Dec (k ≡ t) → 0 < length (cluster holed k .holes) → getD (set es (size + 1 + t) (f + 1)) (size + 1 + k) 0 ≡ lastOf (cluster holed k .holes)

@@ -11,15 +11,16 @@ use Rattle.rules.specs.Layout.{after, firstOf, link, walk}
 use Rattle.rules.specs.Paint.{reads}
 use Rattle.rules.specs.Ledger.{Held}
 use Rattle.rules.specs.Claim.{occurs}
-use Rattle.rules.specs.Ranges.{Below}
-use Rattle.rules.proofs.Basic.{Basic, some-held, once-held}
+use Rattle.rules.specs.Code.Ranges.{AllBelow}
+use Rattle.rules.specs.Code.Early.{Basic}
+use Rattle.rules.proofs.Basic.{some-held, once-held}
 use Rattle.rules.proofs.Sound.{Sound}
 use Rattle.rules.proofs.Links.{last}
 use Rattle.rules.proofs.Chains.{read}
 use Rattle.rules.proofs.Ranges.{occurs-below}
 use Rattle.rules.proofs.Layouts.{links-length, links-at}
 use Rattle.rules.proofs.Paint.{reads-walk}
-use Rattle.runner.specs.Rep.{Rep, lastOf}
+use Rattle.runner.specs.Code.Rep.{Rep, lastOf}
 use Rattle.runner.proofs.Tails.{lastOf-last}
 use Rattle.runner.proofs.Joined.{last-occurs}
 
@@ -48,7 +49,7 @@ module _ {image : List ℕ} {size : ℕ} {h : Held} {s : State} (B : Basic image
       both : T (reads size ks (firstOf (cluster s k .pixels)) (area (cluster s k)))
           × (walk (λ p. getD ks p 0) (firstOf (cluster s k .pixels)) (area (cluster s k)) ≡ walk (link s) (firstOf (cluster s k .pixels)) (area (cluster s k)))
       both = reads-walk size s ks rep-link (area (cluster s k)) (firstOf (cluster s k .pixels)) (ap length chain)
-          (subst (Below size) (sym chain) (occurs-below size (cluster s k .pixels) (place k)))
+          (subst (AllBelow size) (sym chain) (occurs-below size (cluster s k .pixels) (place k)))
 
       pub rep-reads : T (reads size ks (firstOf (cluster s k .pixels)) (area (cluster s k)))
       rep-reads = both .0

@@ -11,18 +11,19 @@ use lib.ListN.{length, getD, set, replicate, length-set, length-replicate, getD-
 use lib.Seq.{getD-set-same, getD-set-other, ext-getD}
 use Rattle.rules.specs.Base.{if_then_else_}
 use Rattle.rules.specs.Color.{Color}
-use Rattle.rules.specs.State.{State, BoundingRect, newCluster, cluster, label, area, relabel, withPixel, withCluster, emptied, fresh, add, beginCluster, combine}
+use Rattle.rules.specs.State.{State, BoundingRect, newCluster, cluster, label, area, relabel, withPixel, withCluster, emptied, fresh, addPixel, beginCluster, combineClusters}
 use Rattle.rules.specs.Stage1.{lowerNext}
-use Rattle.rules.specs.Layout.{after, firstOf, link, links, slot, walk}
+use Rattle.rules.specs.Layout.{after, firstOf, link, links, slot, walk, slotWidth}
 use Rattle.rules.specs.Claim.{bit, occurs}
 use Rattle.rules.specs.Paint.{reads}
+use Rattle.rules.specs.Code.Early.{Early}
 use Rattle.rules.proofs.Facts.{eqb-yes, eqb-no}
 use Rattle.rules.proofs.Basic.{Moved, three, combine-f, combine-t, combine-moved, some-held, held-none, once-held}
-use Rattle.rules.proofs.Early.{Early, Placed, placed, fresh-cluster}
+use Rattle.rules.proofs.Early.{Placed, placed, fresh-cluster}
 use Rattle.rules.proofs.Links.{after-none, Tailed, moved-tailed, moved-other}
 use Rattle.rules.proofs.Layouts.{links-length, links-at}
-use Rattle.runner.specs.Slots.{headOf, savedHead, clearedSlot}
-use Rattle.runner.specs.Rep.{Table, Rep, lastOf, slotsOf, linkAfter}
+use Rattle.runner.specs.Code.Slots.{headOf, savedHead, clearedSlot}
+use Rattle.runner.specs.Code.Rep.{Table, Rep, lastOf, slotsOf, linkAfter}
 use Rattle.runner.proofs.Tails.{lastOf-append, linkAfter-empty, linked-tail}
 use Rattle.runner.proofs.RepReads.{label-chain, rep-labels-length, rep-links-length, rep-reads, rep-walk, rep-tail}
 use Rattle.runner.proofs.PlainSlots.{Plain, restOf, plain-of, of-plain, plain-head, plain-new, plain-begin}
@@ -58,7 +59,7 @@ module _ {image : List ℕ} {size : ℕ} {Gone : ℕ → Type 0} {Keyed : Type 0
 -- ---- the buffers
 
 -- before the first pixel
-pub rep-fresh : (size : ℕ) (t₀ ends : List ℕ) → length ends ≡ 2 * (size + 1) → 21 ≤ length t₀
+pub rep-fresh : (size : ℕ) (t₀ ends : List ℕ) → length ends ≡ 2 * (size + 1) → slotWidth ≤ length t₀
     → Rep size (fresh size) t₀ (replicate size 0) (replicate size 0) (clearedSlot t₀ 0) ends
 unfolding fresh link after
 rep-fresh size t₀ ends e l = record {
@@ -115,51 +116,51 @@ module _ {image : List ℕ} {size : ℕ} {Gone : ℕ → Type 0} {Keyed : Type 0
           getD-set-other ends k j (i + 1) 0 d ∙ R .tails j (omega (arith, ap area (other j d))) (E .roots j) ∙ ap (λ c. lastOf (c .pixels)) (sym (other j d))
 
   module _ (c : Color) (at : BoundingRect) where
-    pub rep-add : (k : ℕ) → k < s .next → 21 * length (s .clusters) ≤ length t₀
-        → Rep size (add i c at k s) t₀ (set labels i k) (linkAfter links′ (area (cluster s k)) (getD ends k 0) (i + 1)) (savedHead table k (headOf (withPixel i c at (cluster s k)))) (set ends k (i + 1))
-    unfolding add withPixel restOf
+    pub rep-add : (k : ℕ) → k < s .nextIndex → slotWidth * length (s .clusters) ≤ length t₀
+        → Rep size (addPixel i c at k s) t₀ (set labels i k) (linkAfter links′ (area (cluster s k)) (getD ends k 0) (i + 1)) (savedHead table k (headOf (withPixel i c at (cluster s k)))) (set ends k (i + 1))
+    unfolding addPixel withPixel restOf
     rep-add k l room =
-        rep-pixel (add i c at k s) (savedHead table k (headOf (withPixel i c at (cluster s k)))) k (omega (arith, E .short)) refl (ap (λ x. x .pixels) here)
+        rep-pixel (addPixel i c at k s) (savedHead table k (headOf (withPixel i c at (cluster s k)))) k (omega (arith, E .short)) refl (ap (λ x. x .pixels) here)
         (λ j d. getD-set-other (s .clusters) k j (withPixel i c at (cluster s k)) newCluster d) (ap (λ x. x .holes) here ∙ E .no-holes k)
-        (λ none. of-plain (add i c at k s) none (plain-head (plain-of s (E .no-holes) (R .tabled)) k (withPixel i c at (cluster s k)) slot-k room refl))
+        (λ none. of-plain (addPixel i c at k s) none (plain-head (plain-of s (E .no-holes) (R .tabled)) k (withPixel i c at (cluster s k)) slot-k room refl))
       where
         slot-k : k < length (s .clusters)
         slot-k = omega (arith, E .room)
 
-        here : cluster (add i c at k s) k ≡ withPixel i c at (cluster s k)
+        here : cluster (addPixel i c at k s) k ≡ withPixel i c at (cluster s k)
         here = getD-set-same (s .clusters) k (withPixel i c at (cluster s k)) newCluster slot-k
 
-    pub rep-begin : 21 * (length (s .clusters) + 1) ≤ length t₀
-        → Rep size (beginCluster i c at s) t₀ (set labels i (s .next)) links′ (savedHead (clearedSlot table (s .next)) (s .next) (headOf (withPixel i c at newCluster))) (set ends (s .next) (i + 1))
+    pub rep-begin : slotWidth * (length (s .clusters) + 1) ≤ length t₀
+        → Rep size (beginCluster i c at s) t₀ (set labels i (s .nextIndex)) links′ (savedHead (clearedSlot table (s .nextIndex)) (s .nextIndex) (headOf (withPixel i c at newCluster))) (set ends (s .nextIndex) (i + 1))
     unfolding beginCluster withPixel restOf
     rep-begin room =
-        subst (λ ls. Rep size (beginCluster i c at s) t₀ (set labels i (s .next)) ls (savedHead (clearedSlot table (s .next)) (s .next) (headOf (withPixel i c at newCluster))) (set ends (s .next) (i + 1)))
-        (ap (λ n. linkAfter links′ n (getD ends (s .next) 0) (i + 1)) (ap length empty) ∙ linkAfter-empty links′ (getD ends (s .next) 0) (i + 1))
-        (rep-pixel (beginCluster i c at s) (savedHead (clearedSlot table (s .next)) (s .next) (headOf (withPixel i c at newCluster))) (s .next) (omega (arith, E .short, E .room)) refl
+        subst (λ ls. Rep size (beginCluster i c at s) t₀ (set labels i (s .nextIndex)) ls (savedHead (clearedSlot table (s .nextIndex)) (s .nextIndex) (headOf (withPixel i c at newCluster))) (set ends (s .nextIndex) (i + 1)))
+        (ap (λ n. linkAfter links′ n (getD ends (s .nextIndex) 0) (i + 1)) (ap length empty) ∙ linkAfter-empty links′ (getD ends (s .nextIndex) 0) (i + 1))
+        (rep-pixel (beginCluster i c at s) (savedHead (clearedSlot table (s .nextIndex)) (s .nextIndex) (headOf (withPixel i c at newCluster))) (s .nextIndex) (omega (arith, E .short, E .room)) refl
         (ap (λ x. x .pixels) (P .here) ∙ ap (λ xs. xs ++ (i ∷ [])) (sym empty)) (P .other) (ap (λ x. x .holes) (P .here))
-        (λ none. of-plain (beginCluster i c at s) none (plain-begin (plain-of s (E .no-holes) (R .tabled)) (s .next) (withPixel i c at newCluster) (E .room) room refl)))
+        (λ none. of-plain (beginCluster i c at s) none (plain-begin (plain-of s (E .no-holes) (R .tabled)) (s .nextIndex) (withPixel i c at newCluster) (E .room) room refl)))
       where
-        P : Placed (s .clusters) (beginCluster i c at s .clusters) (s .next) (withPixel i c at newCluster)
-        P = placed (s .clusters) (s .next) (withPixel i c at newCluster) (E .room) (ltb (s .next) (length (s .clusters))) refl
+        P : Placed (s .clusters) (beginCluster i c at s .clusters) (s .nextIndex) (withPixel i c at newCluster)
+        P = placed (s .clusters) (s .nextIndex) (withPixel i c at newCluster) (E .room) (ltb (s .nextIndex) (length (s .clusters))) refl
 
-        empty : cluster s (s .next) .pixels ≡ []
-        empty = named-none (cluster s (s .next) .pixels) (λ p. held-none (E .basic) (s .next) p (E .free (s .next) p (omega arith)))
+        empty : cluster s (s .nextIndex) .pixels ≡ []
+        empty = named-none (cluster s (s .nextIndex) .pixels) (λ p. held-none (E .basic) (s .nextIndex) p (E .free (s .nextIndex) p (omega arith)))
 
-  module _ (f t : ℕ) (n : f ≢ t) (hf : f < s .next) (ht : t < s .next) where
+  module _ (f t : ℕ) (n : f ≢ t) (hf : f < s .nextIndex) (ht : t < s .nextIndex) where
     to : t < length (s .clusters)
     to = omega (arith, E .room)
 
     from : f < length (s .clusters)
     from = omega (arith, E .room)
 
-    M : Moved f t s (combine f t s)
+    M : Moved f t s (combineClusters f t s)
     M = combine-moved f t s n from to
 
     -- one of three: f is empty, t has both lists, another is as it was
-    combine-tails : (j : ℕ) → 0 < area (cluster (combine f t s) j)
-        → getD (if eqb (area (cluster s f)) 0 then ends else set ends t (getD ends f 0)) j 0 ≡ lastOf (cluster (combine f t s) j .pixels)
+    combine-tails : (j : ℕ) → 0 < area (cluster (combineClusters f t s) j)
+        → getD (if eqb (area (cluster s f)) 0 then ends else set ends t (getD ends f 0)) j 0 ≡ lastOf (cluster (combineClusters f t s) j .pixels)
     unfolding emptied
-    combine-tails = three f t (λ j. 0 < area (cluster (combine f t s) j) → getD (ends′ (area (cluster s f))) j 0 ≡ lastOf (cluster (combine f t s) j .pixels))
+    combine-tails = three f t (λ j. 0 < area (cluster (combineClusters f t s) j) → getD (ends′ (area (cluster s f))) j 0 ≡ lastOf (cluster (combineClusters f t s) j .pixels))
         (λ a. absurd (omega (arith, ap area (combine-f f t s n from to))))
         (λ a. joined (cluster s f .pixels) refl a)
         (λ j d e a. far (eqb (area (cluster s f)) 0) j e ∙ R .tails j (omega (arith, ap area (M .other j d e))) (E .roots j) ∙ ap (λ c. lastOf (c .pixels)) (sym (M .other j d e)))
@@ -171,17 +172,17 @@ module _ {image : List ℕ} {size : ℕ} {Gone : ℕ → Type 0} {Keyed : Type 0
         far true j d = refl
         far false j d = getD-set-other ends t j (getD ends f 0) 0 d
 
-        joined : (fs : List ℕ) → cluster s f .pixels ≡ fs → 0 < area (cluster (combine f t s) t) → getD (ends′ (length fs)) t 0 ≡ lastOf (cluster (combine f t s) t .pixels)
+        joined : (fs : List ℕ) → cluster s f .pixels ≡ fs → 0 < area (cluster (combineClusters f t s) t) → getD (ends′ (length fs)) t 0 ≡ lastOf (cluster (combineClusters f t s) t .pixels)
         joined [] e a =
-            let q : cluster (combine f t s) t .pixels ≡ cluster s t .pixels = M .t-pixels ∙ ap (λ xs. cluster s t .pixels ++ xs) e ∙ append-nil (cluster s t .pixels) in
+            let q : cluster (combineClusters f t s) t .pixels ≡ cluster s t .pixels = M .t-pixels ∙ ap (λ xs. cluster s t .pixels ++ xs) e ∙ append-nil (cluster s t .pixels) in
             R .tails t (omega (arith, ap length q)) (E .roots t) ∙ ap lastOf (sym q)
         joined (y ∷ ys) e a = rw (eqb·suc-zero (length ys))
             (getD-set-same ends t (getD ends f 0) 0 (omega (arith, R .room, E .short)) ∙ R .tails f (omega (arith, ap length e)) (E .roots f) ∙ ap lastOf e
             ∙ sym (ap lastOf (M .t-pixels ∙ ap (λ xs. cluster s t .pixels ++ xs) e) ∙ lastOf-append (cluster s t .pixels) (y ∷ ys) (omega arith)))
 
-    combine-table : 21 * length (s .clusters) ≤ length t₀
-        → Plain t₀ (combine f t s .clusters) (savedHead (savedHead table t (headOf (withCluster (cluster s f) (cluster s t)))) f (headOf newCluster))
-    unfolding combine withCluster emptied restOf
+    combine-table : slotWidth * length (s .clusters) ≤ length t₀
+        → Plain t₀ (combineClusters f t s .clusters) (savedHead (savedHead table t (headOf (withCluster (cluster s f) (cluster s t)))) f (headOf newCluster))
+    unfolding combineClusters withCluster emptied restOf
     combine-table room =
         plain-head (plain-head (plain-of s (E .no-holes) (R .tabled)) t (withCluster (cluster s f) (cluster s t)) to room refl) f (emptied (cluster s f)) (omega (arith, long, from)) (omega (arith, long))
         (ap restOf (sym (getD-set-other (s .clusters) t f (withCluster (cluster s f) (cluster s t)) newCluster n)))
@@ -189,23 +190,23 @@ module _ {image : List ℕ} {size : ℕ} {Gone : ℕ → Type 0} {Keyed : Type 0
         long : length (set (s .clusters) t (withCluster (cluster s f) (cluster s t))) ≡ length (s .clusters)
         long = length-set (s .clusters) t (withCluster (cluster s f) (cluster s t))
 
-    pub rep-combine : 21 * length (s .clusters) ≤ length t₀
-        → Rep size (combine f t s) t₀ (relabel t (cluster s f .pixels) labels) (linkAfter links′ (area (cluster s t)) (getD ends t 0) (firstOf (cluster s f .pixels)))
+    pub rep-combine : slotWidth * length (s .clusters) ≤ length t₀
+        → Rep size (combineClusters f t s) t₀ (relabel t (cluster s f .pixels) labels) (linkAfter links′ (area (cluster s t)) (getD ends t 0) (firstOf (cluster s f .pixels)))
         (savedHead (savedHead table t (headOf (withCluster (cluster s f) (cluster s t)))) f (headOf newCluster)) (if eqb (area (cluster s f)) 0 then ends else set ends t (getD ends f 0))
     unfolding withCluster emptied
     rep-combine room = record {
       labelled = ap (relabel t (cluster s f .pixels)) (R .labelled) ∙ sym (M .labels);
       linked = linked-tail (moved-tailed (E .basic) f t n M (E .flats f) (E .flats t))
           (λ p. moved-other (E .basic) f t n M (E .flats f) (E .flats t) p (λ z. ap (λ c. occurs p (c .pixels)) (combine-f f t s n from to))) (R .linked) (λ l. R .tails t l (E .roots t));
-      tabled = of-plain (combine f t s) nones (combine-table room);
+      tabled = of-plain (combineClusters f t s) nones (combine-table room);
       tails = λ j a z. combine-tails j a;
       hole-tails = λ j a. absurd (omega (arith, ap length (nones j)));
       room = long (eqb (area (cluster s f)) 0);
     }
       where
-        nones : (j : ℕ) → cluster (combine f t s) j .holes ≡ []
+        nones : (j : ℕ) → cluster (combineClusters f t s) j .holes ≡ []
         nones =
-            three f t (λ j. cluster (combine f t s) j .holes ≡ []) (ap (λ c. c .holes) (combine-f f t s n from to) ∙ E .no-holes f) (ap (λ c. c .holes) (combine-t f t s n from to) ∙ E .no-holes t)
+            three f t (λ j. cluster (combineClusters f t s) j .holes ≡ []) (ap (λ c. c .holes) (combine-f f t s n from to) ∙ E .no-holes f) (ap (λ c. c .holes) (combine-t f t s n from to) ∙ E .no-holes t)
             (λ j a b. ap (λ c. c .holes) (M .other j a b) ∙ E .no-holes j)
 
         long : (b : Bool) → length (if b then ends else set ends t (getD ends f 0)) ≡ 2 * (size + 1)

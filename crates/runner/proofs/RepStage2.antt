@@ -12,8 +12,8 @@ use lib.ListN.{length, getD, set, length-set, length-map}
 use lib.Seq.{getD-set-other}
 use Rattle.rules.specs.Base.{if_then_else_, upTo}
 use Rattle.rules.specs.Color.{_⊕_}
-use Rattle.rules.specs.State.{State, Cluster, newCluster, cluster, label, area, relabel, withCluster, emptied, withResidue, mergedTo, deeper, put, merge, deepen}
-use Rattle.rules.specs.Layout.{after, firstOf, link, links, sumNumbers, slot}
+use Rattle.rules.specs.State.{State, Cluster, newCluster, cluster, label, area, relabel, withCluster, emptied, withResidue, mergedTo, deeper, putOut, mergeClusterInto, deepenClusterInto}
+use Rattle.rules.specs.Layout.{after, firstOf, link, links, sumNumbers, slot, slotWidth, mergedIntoPlace, depthPlace}
 use Rattle.rules.specs.Stage2.{prepareStage2}
 use Rattle.rules.specs.Claim.{occurs}
 use Rattle.rules.proofs.Basic.{Moved, three}
@@ -23,15 +23,15 @@ use Rattle.rules.proofs.Early.{settled}
 use Rattle.rules.proofs.Holes.{Holes, root-unnamed, merge-same-holes, merge-same-into, deepen-t-holes, deepen-other-holes, deepen-other-into, deepen-into}
 use Rattle.color.specs.Colors.{sumOf}
 use Rattle.color.specs.declared.ColorSum.{ColorSum}
-use Rattle.runner.specs.Slots.{sumAt, store, headAt, headNumbers, savedHead, residueNumbers, savedResidue, headOf}
-use Rattle.runner.specs.Rep.{Table, Rep, lastOf, linkAfter, written, slotsOf}
+use Rattle.runner.specs.Code.Slots.{sumAt, setNumbers, headAt, headNumbers, savedHead, residueNumbers, savedResidue, headOf}
+use Rattle.runner.specs.Code.Rep.{Table, Rep, lastOf, linkAfter, written, slotsOf}
 use Rattle.runner.proofs.Tables.{written-out, table-head, table-residue, table-set, table-same}
 use Rattle.runner.proofs.Rows.{Row, row-in, row-out, row, nextHole, slot-is, slot-row, Fills, table-fills}
 use Rattle.runner.proofs.Joined.{moved-labels, moved-links, moved-tails}
 
 -- a cluster that is put out changes no buffer
-pub rep-put : {size : ℕ} {s : State} {t₀ ls ks tb es : List ℕ} (k : ℕ) → Rep size s t₀ ls ks tb es → Rep size (put k s) t₀ ls ks tb es
-unfolding put links link slot
+pub rep-put : {size : ℕ} {s : State} {t₀ ls ks tb es : List ℕ} (k : ℕ) → Rep size s t₀ ls ks tb es → Rep size (putOut k s) t₀ ls ks tb es
+unfolding putOut links link slot
 rep-put k R = record { labelled = R .labelled; linked = R .linked; tabled = R .tabled; tails = R .tails; hole-tails = R .hole-tails; room = R .room }
 
 -- links read only labels and lists
@@ -82,7 +82,7 @@ module _ (s : State) {n : ℕ} {t₀ tb : List ℕ} where
     still : (f : ℕ) → preparing s k k f ≡ slotsOf s k f
     still f = ap (λ c. if c then slotsOf (prepareStage2 s) k f else slotsOf s k f) (le-ltb k k (omega arith))
 
-    sum-number : (f : ℕ) → f < 21 → getD tb (21 * k + f) 0 ≡ slotsOf s k f
+    sum-number : (f : ℕ) → f < slotWidth → getD tb (slotWidth * k + f) 0 ≡ slotsOf s k f
     sum-number f b = U .slots k f l b ∙ still f
 
     -- the sum of slot k, which is read before its residue is set
@@ -94,7 +94,7 @@ module _ (s : State) {n : ℕ} {t₀ tb : List ℕ} where
     unfolding headAt
     prepare-head-sum = prepare-sum
 
-    pub prepare-step : 21 * n ≤ length t₀ → (x : ColorSum) → sumOf x ≡ cluster s k .sum → Table n (preparing s (suc k)) t₀ (savedResidue tb k x)
+    pub prepare-step : slotWidth * n ≤ length t₀ → (x : ColorSum) → sumOf x ≡ cluster s k .sum → Table n (preparing s (suc k)) t₀ (savedResidue tb k x)
     unfolding withResidue
     prepare-step fits x e = table-same (table-residue U k x l fits) (λ j f m b. pick j f b (ℕ-discrete j k) (decLt j k))
       where
@@ -104,10 +104,10 @@ module _ (s : State) {n : ℕ} {t₀ tb : List ℕ} where
         next : nextHole (prepareStage2 s) k ≡ nextHole s k
         next = ap (λ m. after k (cluster (prepareStage2 s) m .holes)) (prepared-into s k) ∙ ap (after k) (prepared-holes s (cluster s k .mergedInto))
 
-        new : store (row s k) 0 11 (residueNumbers x) ≡ slot (prepareStage2 s) k
+        new : setNumbers (row s k) 0 11 (residueNumbers x) ≡ slot (prepareStage2 s) k
         new = sym (slot-is (prepareStage2 s) k (withResidue (sumOf x) (cluster s k)) (nextHole s k) (settled s k ∙ ap (λ y. withResidue y (cluster s k)) (sym e)) next)
 
-        pick : (j f : ℕ) → f < 21 → Dec (j ≡ k) → Dec (j < k) → written (preparing s k) k 11 (residueNumbers x) j f ≡ preparing s (suc k) j f
+        pick : (j f : ℕ) → f < slotWidth → Dec (j ≡ k) → Dec (j < k) → written (preparing s k) k 11 (residueNumbers x) j f ≡ preparing s (suc k) j f
         pick j f b (yes z) y = subst (λ i. written (preparing s k) k 11 (residueNumbers x) i f ≡ preparing s (suc k) i f) (sym z)
             (row-in 11 (residueNumbers x) (lit≤ tt) old .at f b ∙ ap (λ v. getD v f 0) new ∙ sym (ap (λ c. if c then slotsOf (prepareStage2 s) k f else slotsOf s k f) (lt-ltb k (suc k) (omega arith))))
         pick j f b (no z) (yes y) = written-out (preparing s k) k 11 (residueNumbers x) j f (inl z)
@@ -118,7 +118,7 @@ module _ (s : State) {n : ℕ} {t₀ tb : List ℕ} where
 -- ---- merges
 
 module _ {image : List ℕ} {size : ℕ} (a f : ℕ) (s : State) (G : Going image size a f s) (pos : 0 < a) (e : area (cluster s f) ≡ a) (t : ℕ) (N : Near s (label s (getD (cluster s f .pixels) 0 0)) t)
-    {t₀ ls ks tb es : List ℕ} (R : Rep size s t₀ ls ks tb es) (few : length (s .clusters) ≤ size + 1) (fits : 21 * length (s .clusters) ≤ length t₀) where
+    {t₀ ls ks tb es : List ℕ} (R : Rep size s t₀ ls ks tb es) (few : length (s .clusters) ≤ size + 1) (fits : slotWidth * length (s .clusters) ≤ length t₀) where
   d : f ≢ t
   d = k≢t a f s G pos e t N
 
@@ -133,7 +133,7 @@ module _ {image : List ℕ} {size : ℕ} (a f : ℕ) (s : State) (G : Going imag
   same-hole-tails k = getD-set-other es t (size + 1 + k) (getD es f 0) 0 (λ z. omega (arith, ts))
 
   pub rep-merge : (r : ColorSum) → sumOf r ≡ cluster s t .residue ⊕ cluster s f .residue
-      → Rep size (merge f t s) t₀ (relabel t (cluster s f .pixels) ls) (linkAfter ks (area (cluster s t)) (getD es t 0) (firstOf (cluster s f .pixels)))
+      → Rep size (mergeClusterInto f t s) t₀ (relabel t (cluster s f .pixels) ls) (linkAfter ks (area (cluster s t)) (getD es t 0) (firstOf (cluster s f .pixels)))
       (savedHead (savedHead (savedResidue tb t r) t (headOf (withCluster (cluster s f) (cluster s t)))) f (headOf newCluster)) (set es t (getD es f 0))
   unfolding emptied withCluster withResidue
   rep-merge r re = record {
@@ -147,7 +147,7 @@ module _ {image : List ℕ} {size : ℕ} (a f : ℕ) (s : State) (G : Going imag
   }
     where
       u : State
-      u = merge f t s
+      u = mergeClusterInto f t s
 
       to : Cluster
       to = withCluster (cluster s f) (cluster s t)
@@ -158,25 +158,25 @@ module _ {image : List ℕ} {size : ℕ} (a f : ℕ) (s : State) (G : Going imag
       σ : ℕ → ℕ → ℕ
       σ = written (written (written (slotsOf s) t 11 (residueNumbers r)) t 0 (headNumbers (headOf to))) f 0 (headNumbers (headOf newCluster))
 
-      M : Moved f t s (merge f t s)
+      M : Moved f t s (mergeClusterInto f t s)
       M = merge-changes a f s G pos e t N
 
-      from : cluster (merge f t s) f ≡ emptied (cluster s f)
+      from : cluster (mergeClusterInto f t s) f ≡ emptied (cluster s f)
       from = merge-from a f s G pos e t N
 
-      next : (k : ℕ) → nextHole (merge f t s) k ≡ nextHole s k
-      next k = ap (λ m. after k (cluster (merge f t s) m .holes)) (merge-same-into a f s G pos e t N k) ∙ ap (after k) (merge-same-holes a f s G pos e t N (cluster s k .mergedInto))
+      next : (k : ℕ) → nextHole (mergeClusterInto f t s) k ≡ nextHole s k
+      next k = ap (λ m. after k (cluster (mergeClusterInto f t s) m .holes)) (merge-same-into a f s G pos e t N k) ∙ ap (after k) (merge-same-holes a f s G pos e t N (cluster s k .mergedInto))
 
       f-fills : Fills σ u f
       f-fills = (
-        store (row s f) 0 0 (headNumbers (headOf newCluster)),
+        setNumbers (row s f) 0 0 (headNumbers (headOf newCluster)),
         row-in 0 (headNumbers (headOf newCluster)) (lit≤ tt) (row-out t 0 (headNumbers (headOf to)) d (row-out t 11 (residueNumbers r) d (slot-row s f))),
         sym (slot-is u f (emptied (cluster s f)) (nextHole s f) from (next f)),
       )
 
       t-fills : Fills σ u t
       t-fills = (
-        store (store (row s t) 0 11 (residueNumbers r)) 0 0 (headNumbers (headOf to)),
+        setNumbers (setNumbers (row s t) 0 11 (residueNumbers r)) 0 0 (headNumbers (headOf to)),
         row-out f 0 (headNumbers (headOf newCluster)) (λ z. d (sym z)) (row-in 0 (headNumbers (headOf to)) (lit≤ tt) (row-in 11 (residueNumbers r) (lit≤ tt) (slot-row s t))),
         sym (slot-is u t (withResidue (sumOf r) to) (nextHole s t) (merge-to a f s G pos e t N ∙ ap (λ x. withResidue x to) (sym re)) (next t)),
       )
@@ -188,8 +188,8 @@ module _ {image : List ℕ} {size : ℕ} (a f : ℕ) (s : State) (G : Going imag
         sym (slot-is u k (cluster s k) (nextHole s k) (M .other k m n) (next k)),
       )
 
-  pub rep-deepen : Holes s → Rep size (deepen false f t s) t₀ (relabel t (cluster s f .pixels) ls) (linkAfter ks (area (cluster s t)) (getD es t 0) (firstOf (cluster s f .pixels)))
-      (set (set (savedHead tb t (headOf (withCluster (cluster s f) (cluster s t)))) (21 * f + 16) t) (21 * t + 17) (cluster s t .depth + 1)) (set es t (getD es f 0))
+  pub rep-deepen : Holes s → Rep size (deepenClusterInto false f t s) t₀ (relabel t (cluster s f .pixels) ls) (linkAfter ks (area (cluster s t)) (getD es t 0) (firstOf (cluster s f .pixels)))
+      (set (set (savedHead tb t (headOf (withCluster (cluster s f) (cluster s t)))) (slotWidth * f + mergedIntoPlace) t) (slotWidth * t + depthPlace) (cluster s t .depth + 1)) (set es t (getD es f 0))
   unfolding mergedTo withCluster deeper
   rep-deepen H = record {
     labelled = moved-labels a f s G pos e t N R M;
@@ -202,49 +202,49 @@ module _ {image : List ℕ} {size : ℕ} (a f : ℕ) (s : State) (G : Going imag
   }
     where
       u : State
-      u = deepen false f t s
+      u = deepenClusterInto false f t s
 
       to : Cluster
       to = withCluster (cluster s f) (cluster s t)
 
       tb′ : List ℕ
-      tb′ = set (set (savedHead tb t (headOf to)) (21 * f + 16) t) (21 * t + 17) (cluster s t .depth + 1)
+      tb′ = set (set (savedHead tb t (headOf to)) (slotWidth * f + mergedIntoPlace) t) (slotWidth * t + depthPlace) (cluster s t .depth + 1)
 
       σ : ℕ → ℕ → ℕ
       σ = written (written (written (slotsOf s) t 0 (headNumbers (headOf to))) f 16 (t ∷ [])) t 17 ((cluster s t .depth + 1) ∷ [])
 
-      M : Moved f t s (deepen false f t s)
+      M : Moved f t s (deepenClusterInto false f t s)
       M = deepen-changes a f s G pos e t N false
 
-      from : cluster (deepen false f t s) f ≡ mergedTo t (cluster s f)
+      from : cluster (deepenClusterInto false f t s) f ≡ mergedTo t (cluster s f)
       from = deepen-from a f s G pos e t N false
 
       -- no hole list changes
-      same : (k : ℕ) → cluster (deepen false f t s) k .holes ≡ cluster s k .holes
+      same : (k : ℕ) → cluster (deepenClusterInto false f t s) k .holes ≡ cluster s k .holes
       same k = by-cases (ℕ-discrete k t)
-          (λ z. subst (λ m. cluster (deepen false f t s) m .holes ≡ cluster s m .holes) (sym z) (deepen-t-holes a f s G pos e t N false))
+          (λ z. subst (λ m. cluster (deepenClusterInto false f t s) m .holes ≡ cluster s m .holes) (sym z) (deepen-t-holes a f s G pos e t N false))
           (λ z. deepen-other-holes a f s G pos e t N false k z)
 
-      next : (k : ℕ) → k ≢ f → nextHole (deepen false f t s) k ≡ nextHole s k
-      next k n = ap (λ m. after k (cluster (deepen false f t s) m .holes)) (deepen-other-into a f s G pos e t N false k n) ∙ ap (after k) (same (cluster s k .mergedInto))
+      next : (k : ℕ) → k ≢ f → nextHole (deepenClusterInto false f t s) k ≡ nextHole s k
+      next k n = ap (λ m. after k (cluster (deepenClusterInto false f t s) m .holes)) (deepen-other-into a f s G pos e t N false k n) ∙ ap (after k) (same (cluster s k .mergedInto))
 
       -- f is named nowhere
-      f-next : nextHole (deepen false f t s) f ≡ nextHole s f
+      f-next : nextHole (deepenClusterInto false f t s) f ≡ nextHole s f
       f-next =
-          ap (λ m. after f (cluster (deepen false f t s) m .holes)) (deepen-into a f s G pos e t N false) ∙ ap (after f) (same t)
+          ap (λ m. after f (cluster (deepenClusterInto false f t s) m .holes)) (deepen-into a f s G pos e t N false) ∙ ap (after f) (same t)
           ∙ after-none f (cluster s t .holes) (root-unnamed H f (root a f s G pos e) t)
           ∙ sym (after-none f (cluster s (cluster s f .mergedInto) .holes) (root-unnamed H f (root a f s G pos e) (cluster s f .mergedInto)))
 
       f-fills : Fills σ u f
       f-fills = (
-        store (row s f) 0 16 (t ∷ []),
+        setNumbers (row s f) 0 16 (t ∷ []),
         row-out t 17 ((cluster s t .depth + 1) ∷ []) d (row-in 16 (t ∷ []) (lit≤ tt) (row-out t 0 (headNumbers (headOf to)) d (slot-row s f))),
         sym (slot-is u f (mergedTo t (cluster s f)) (nextHole s f) from f-next),
       )
 
       t-fills : Fills σ u t
       t-fills = (
-        store (store (row s t) 0 0 (headNumbers (headOf to))) 0 17 ((cluster s t .depth + 1) ∷ []),
+        setNumbers (setNumbers (row s t) 0 0 (headNumbers (headOf to))) 0 17 ((cluster s t .depth + 1) ∷ []),
         row-in 17 ((cluster s t .depth + 1) ∷ []) (lit≤ tt) (row-out f 16 (t ∷ []) (λ z. d (sym z)) (row-in 0 (headNumbers (headOf to)) (lit≤ tt) (slot-row s t))),
         sym (slot-is u t (deeper false f to) (nextHole s t) (deepen-to a f s G pos e t N false) (next t (λ z. d (sym z)))),
       )

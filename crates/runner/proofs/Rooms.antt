@@ -8,14 +8,14 @@ use lib.Dec.{leb}
 use lib.ListN.{length, getD}
 use Rattle.rules.specs.Base.{if_then_else_}
 use Rattle.rules.specs.Color.{RunnerConfig}
-use Rattle.rules.specs.State.{put}
+use Rattle.rules.specs.State.{putOut}
 use Rattle.rules.specs.Stage2.{deepens}
 use Rattle.runner.specs.declared.stage2.Turns.{Turns}
 use Rattle.runner.specs.declared.cluster.Nearest.{Nearest}
-use Rattle.runner.specs.Ops.{CanMerge, Merged, CanDeepen, Deepened, CanHollow, Hollowed}
-use Rattle.runner.specs.Queue.{Sized, Tree, KeySet}
-use Rattle.runner.specs.Neighbours.{Scannable}
-use Rattle.runner.specs.Stage2.{withPart, queuePart, endsPart, marksPart, CanPut, Put, CanGrow, Grown, queueAt, visitAt, Between, Chosen, Visiting, Aimed, Deepening, Visited}
+use Rattle.runner.specs.Code.Ops.{CanMerge, Merged, CanDeepen, Deepened, CanHollow, Hollowed}
+use Rattle.runner.specs.Code.Queue.{Sized, Tree, KeySet}
+use Rattle.runner.specs.Code.Neighbours.{Scannable}
+use Rattle.runner.specs.Code.Stage2.{withPart, queuePart, endsPart, marksPart, CanPut, Put, CanGrow, Grown, queueAt, visitAt, Between, Chosen, Visiting, Aimed, Deepening, Visited}
 use Rattle.runner.proofs.Visiting as visiting
 use Rattle.runner.proofs.Turning as turning
 
@@ -35,7 +35,7 @@ module _ {o : RunnerConfig} {w h : ℕ} {image t₀ L K B W : List ℕ} {t : Tur
   pub can-put : CanPut room (t .m) W
   can-put = rw slots (visiting.can-put X)
 
-  pub put-visited : (b : Bool) → visitAt o w h image (t .turns) k ≡ (if b then put k (queueAt o w h image (t .turns) .now) else queueAt o w h image (t .turns) .now) → marks ≤ t .turns + 1
+  pub put-visited : (b : Bool) → visitAt o w h image (t .turns) k ≡ (if b then putOut k (queueAt o w h image (t .turns) .now) else queueAt o w h image (t .turns) .now) → marks ≤ t .turns + 1
       → {r : Turns} {W′ : List ℕ} → Put b room k t r W W′ → Visited o w h image t₀ L K B W′ t r k
   put-visited b e l P = visiting.put-visited X b e l (rw slots at P)
 

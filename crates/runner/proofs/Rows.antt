@@ -7,24 +7,24 @@ use native.Mathlib.Decide.{decLt}
 use native.Mathlib.Omega.{arith}
 use lib.ListN.{length, getD}
 use Rattle.rules.specs.State.{State, Cluster, cluster}
-use Rattle.rules.specs.Layout.{after, firstOf, sumNumbers, slot}
-use Rattle.runner.specs.Slots.{store}
-use Rattle.runner.specs.Rep.{Table, written, slotsOf}
+use Rattle.rules.specs.Layout.{after, firstOf, sumNumbers, slot, slotWidth}
+use Rattle.runner.specs.Code.Slots.{setNumbers}
+use Rattle.runner.specs.Code.Rep.{Table, written, slotsOf}
 use Rattle.runner.proofs.Tables.{store-length, store-in, store-out, written-in, written-out, table-same}
 
 -- slot i has the numbers l
 pub record Row (σ : ℕ → ℕ → ℕ) (i : ℕ) (l : List ℕ) : Type 0 where
-  pub wide : length l ≡ 21
-  pub at : (f : ℕ) → f < 21 → σ i f ≡ getD l f 0
+  pub wide : length l ≡ slotWidth
+  pub at : (f : ℕ) → f < slotWidth → σ i f ≡ getD l f 0
 
-pub row-in : {σ : ℕ → ℕ → ℕ} {k : ℕ} {l : List ℕ} (j : ℕ) (vs : List ℕ) → j + length vs ≤ 21 → Row σ k l → Row (written σ k j vs) k (store l 0 j vs)
+pub row-in : {σ : ℕ → ℕ → ℕ} {k : ℕ} {l : List ℕ} (j : ℕ) (vs : List ℕ) → j + length vs ≤ slotWidth → Row σ k l → Row (written σ k j vs) k (setNumbers l 0 j vs)
 row-in {σ} {k} {l} j vs r R = record { wide = store-length l 0 j vs ∙ R .wide; at = λ f b. at f b (decLt f j) (decLt f (j + length vs)) }
   where
-    at : (f : ℕ) → f < 21 → Dec (f < j) → Dec (f < j + length vs) → written σ k j vs k f ≡ getD (store l 0 j vs) f 0
+    at : (f : ℕ) → f < slotWidth → Dec (f < j) → Dec (f < j + length vs) → written σ k j vs k f ≡ getD (setNumbers l 0 j vs) f 0
     at f b (yes x) y = written-out σ k j vs k f (inr (inl x)) ∙ R .at f b ∙ sym (store-out l 0 j vs f (inl (omega arith)))
     at f b (no x) (yes y) =
         let z : 0 + f ≡ f = omega arith in
-        written-in σ k j vs f (omega arith) y ∙ sym (subst (λ i. getD (store l 0 j vs) i 0 ≡ getD vs (f - j) 0) z (store-in l 0 j vs f (omega arith) y (omega (arith, R .wide))))
+        written-in σ k j vs f (omega arith) y ∙ sym (subst (λ i. getD (setNumbers l 0 j vs) i 0 ≡ getD vs (f - j) 0) z (store-in l 0 j vs f (omega arith) y (omega (arith, R .wide))))
     at f b (no x) (no y) = written-out σ k j vs k f (inr (inr (omega arith))) ∙ R .at f b ∙ sym (store-out l 0 j vs f (inr (omega arith)))
 
 pub row-out : {σ : ℕ → ℕ → ℕ} {i : ℕ} {l : List ℕ} (k j : ℕ) (vs : List ℕ) → i ≢ k → Row σ i l → Row (written σ k j vs) i l

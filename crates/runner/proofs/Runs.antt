@@ -14,22 +14,22 @@ use Rattle.rules.specs.Base.{if_then_else_, keep}
 use Rattle.rules.specs.Color.{RunnerConfig}
 use Rattle.rules.specs.State.{State, cluster}
 use Rattle.rules.specs.Run.{stage1, stage2, dropEmpty, run}
-use Rattle.rules.specs.Layout.{link, links, slot, table}
-use Rattle.rules.specs.Order.{drained}
-use Rattle.rules.specs.Ranges.{Ranged, Below}
+use Rattle.rules.specs.Layout.{link, links, slot, table, slotWidth}
+use Rattle.rules.specs.Code.Order.{drained}
+use Rattle.rules.specs.Code.Ranges.{Ranged, AllBelow}
 use Rattle.rules.specs.Refusals.{badShift}
 use Rattle.rules.specs.Calls.{Buffers, over, leaves, accepted}
-use Rattle.rules.proofs.Accepted.{Accepted}
+use Rattle.rules.specs.Code.Accepted.{Accepted}
 use Rattle.rules.proofs.Bounds.{outputs-bound}
 use Rattle.rules.proofs.Layouts.{links-length}
 use Rattle.rules.proofs.Moments.{run-width}
 use Rattle.rules.proofs.Order.{drained-stage2}
 use Rattle.rules.proofs.Ranges.{turns-ranged}
-use Rattle.runner.specs.Outputs.{counted}
-use Rattle.runner.specs.Rep.{Table, Rep, slotsOf}
-use Rattle.runner.specs.Stage1.{Holding, Given, Blank}
-use Rattle.runner.specs.Stage2.{part, withPart, endsPart, marksPart, Image, Entered, CanStage2, Staged}
-use Rattle.runner.specs.Calls.{Blanked, CanRun, CanFinish, Finished}
+use Rattle.runner.specs.Code.Outputs.{counted}
+use Rattle.runner.specs.Code.Rep.{Table, Rep, slotsOf}
+use Rattle.runner.specs.Code.Stage1.{Holding, Given, Blank}
+use Rattle.runner.specs.Code.Stage2.{part, withPart, endsPart, marksPart, Image, Entered, CanStage2, Staged}
+use Rattle.runner.specs.Code.Calls.{Blanked, CanRun, CanFinish, Finished}
 use Rattle.runner.proofs.Parts.{part-at, part-length, ends-length, length-with, part-with, part-after}
 use Rattle.runner.proofs.Tables.{sum-at, table-over}
 
@@ -49,7 +49,7 @@ no-marks W room l =
 
 -- a work buffer W with no mark, into whose second part stage 1 has put the ends E of the lists
 module _ {w h : ℕ} (W E : List ℕ) (long : length W ≡ 8 * (w * h + 1)) (wide : length E ≡ 2 * (w * h + 1)) where
-  entered : {o : RunnerConfig} {image t₀ L K B : List ℕ} {next count : ℕ} → 21 * (w * h + 1) ≤ length t₀ → Holding (w * h) (stage1 o w h image) t₀ L K B E next count
+  entered : {o : RunnerConfig} {image t₀ L K B : List ℕ} {next count : ℕ} → slotWidth * (w * h + 1) ≤ length t₀ → Holding (w * h) (stage1 o w h image) t₀ L K B E next count
       → Entered o w h image t₀ L K B (withPart W (3 * (w * h + 1)) (5 * (w * h + 1)) E) count
   entered {o} {image} {t₀} {L} {K} {B} room H = record {
     rep =
@@ -103,7 +103,7 @@ module _ {o : RunnerConfig} {w h : ℕ} {image L K B W L₁ K₁ W₁ : List ℕ
 beginning : (ys old : List ℕ) (n : ℕ) → length ys ≡ n → withPart old 0 n ys ≡ over ys old
 beginning ys old n e = ap (λ k. ys ++ drop k old) (sub-zero n ∙ sym e)
 
-below-at : {n : ℕ} (xs : List ℕ) (i : ℕ) → Below n xs → i < length xs → getD xs i 0 < n
+below-at : {n : ℕ} (xs : List ℕ) (i : ℕ) → AllBelow n xs → i < length xs → getD xs i 0 < n
 below-at [] i b l = absurd (omega arith)
 below-at (x ∷ xs) zero b l = b .0
 below-at (x ∷ xs) (suc i) b l = below-at xs i (b .1) (omega arith)
@@ -118,7 +118,7 @@ unfolding table slot dropEmpty
 table-kept s = refl
 
 -- the entries that count something by the table are those that do by the state
-counted-is : (s : State) {t₀ t : List ℕ} → Table (length (s .clusters)) (slotsOf s) t₀ t → (xs : List ℕ) → Below (length (s .clusters)) xs
+counted-is : (s : State) {t₀ t : List ℕ} → Table (length (s .clusters)) (slotsOf s) t₀ t → (xs : List ℕ) → AllBelow (length (s .clusters)) xs
     → counted t xs ≡ keep (λ k. ltb 0 (cluster s k .sum .count)) xs
 unfolding counted
 counted-is s {t₀} {t} T [] b = refl

@@ -12,21 +12,23 @@ use lib.Dec.{T}
 use lib.ListN.{length, getD, set}
 use lib.Seq.{getD-set-same, set-set, set-comm}
 use Rattle.rules.specs.Color.{RunnerConfig, pixel, keyingOn}
-use Rattle.rules.specs.State.{State, cluster, label, area, pixelRect, withPixel, withCluster, add}
+use Rattle.rules.specs.State.{State, cluster, label, area, pixelRect, withPixel, withCluster, addPixel}
 use Rattle.rules.specs.Stage1.{labelAt, isKey, taken}
-use Rattle.rules.specs.Ranges.{Fits}
-use Rattle.rules.specs.Spans.{setFrom, sumFrom, spanOf, addSpan, Span, Extends, AllExtend, NearBytes}
+use Rattle.rules.specs.Code.Ranges.{Fits}
+use Rattle.rules.specs.Code.Spans.{setFrom, sumFrom, spanOf, addSpan, Span, Extends, AllExtend, NearBytes}
 use Rattle.rules.specs.Demand3.{Discarded}
-use Rattle.rules.proofs.Early.{Early, labelAt-next}
+use Rattle.rules.proofs.Early.{labelAt-next}
 use Rattle.rules.proofs.Whole.{early-at}
 use Rattle.rules.proofs.Ranges.{sum-fits as cluster-fits}
 use Rattle.rules.proofs.Spans.{same-near, sum-fits, inner-column, inner-row, span-of, span-cluster, span-free, span-slots, span-area, span-first, span-next, add-first, add-next, taken-span}
+use Rattle.rules.specs.Layout.{slotWidth}
+use Rattle.rules.specs.Code.Early.{Early}
 use Rattle.color.specs.Colors.{sumOf}
 use Rattle.runner.specs.declared.slot.Head.{Head}
-use Rattle.runner.specs.Slots.{Adds, store, headAt, headOf, headNumbers, savedHead}
-use Rattle.runner.specs.Rep.{Rep, linkAfter}
-use Rattle.runner.specs.Spans.{linkedFrom, CanAddSpan, AddedSpan, Extending, RowRest, FoundSpan, Fitting, ManyNear}
-use Rattle.runner.specs.Stage1.{Holding, Placing, Taking}
+use Rattle.runner.specs.Code.Slots.{Adds, setNumbers, headAt, headOf, headNumbers, savedHead}
+use Rattle.runner.specs.Code.Rep.{Rep, linkAfter}
+use Rattle.runner.specs.Code.Spans.{linkedFrom, CanAddSpan, AddedSpan, Extending, RowRest, FoundSpan, Fitting, ManyNear}
+use Rattle.runner.specs.Code.Stage1.{Holding, Placing, Taking}
 use Rattle.runner.proofs.Places.{place-in}
 use Rattle.runner.proofs.Spots.{spot-in, near-row}
 use Rattle.runner.proofs.Tables.{head-at}
@@ -36,21 +38,21 @@ use Rattle.runner.proofs.Stage1Laws.{rep-is, can-add}
 
 -- ---- a head saved twice
 
-set-store : (t : List ℕ) (b j : ℕ) (vs : List ℕ) (p w : ℕ) → p < b + j → set (store t b j vs) p w ≡ store (set t p w) b j vs
+set-store : (t : List ℕ) (b j : ℕ) (vs : List ℕ) (p w : ℕ) → p < b + j → set (setNumbers t b j vs) p w ≡ setNumbers (set t p w) b j vs
 set-store t b j [] p w l = refl
-set-store t b j (v ∷ vs) p w l = set-store (set t (b + j) v) b (suc j) vs p w (omega arith) ∙ ap (λ u. store u b (suc j) vs) (set-comm t (b + j) p v w (λ e. omega (arith, e)))
+set-store t b j (v ∷ vs) p w l = set-store (set t (b + j) v) b (suc j) vs p w (omega arith) ∙ ap (λ u. setNumbers u b (suc j) vs) (set-comm t (b + j) p v w (λ e. omega (arith, e)))
 
-store-twice : (t : List ℕ) (b j : ℕ) (vs ws : List ℕ) → length vs ≡ length ws → store (store t b j vs) b j ws ≡ store t b j ws
+store-twice : (t : List ℕ) (b j : ℕ) (vs ws : List ℕ) → length vs ≡ length ws → setNumbers (setNumbers t b j vs) b j ws ≡ setNumbers t b j ws
 store-twice t b j [] [] e = refl
 store-twice t b j [] (w ∷ ws) e = absurd (omega (arith, e))
 store-twice t b j (v ∷ vs) [] e = absurd (omega (arith, e))
 store-twice t b j (v ∷ vs) (w ∷ ws) e =
-    ap (λ u. store u b (suc j) ws) (set-store (set t (b + j) v) b (suc j) vs (b + j) w (omega arith) ∙ ap (λ u. store u b (suc j) vs) (set-set t (b + j) v w))
+    ap (λ u. setNumbers u b (suc j) ws) (set-store (set t (b + j) v) b (suc j) vs (b + j) w (omega arith) ∙ ap (λ u. setNumbers u b (suc j) vs) (set-set t (b + j) v w))
     ∙ store-twice (set t (b + j) w) b (suc j) vs ws (omega (arith, e))
 
 saved-twice : (t : List ℕ) (k : ℕ) (g h : Head) → savedHead (savedHead t k g) k h ≡ savedHead t k h
 unfolding savedHead
-saved-twice t k g h = store-twice t (21 * k) 0 (headNumbers g) (headNumbers h) refl
+saved-twice t k g h = store-twice t (slotWidth * k) 0 (headNumbers g) (headNumbers h) refl
 
 -- ---- the span
 
@@ -80,9 +82,9 @@ module _ {o : RunnerConfig} {w h : ℕ} {image : List ℕ} {shift i x y n k : �
   before : label s (i - 1) ≡ k
   before = ap (λ ls. getD ls (i - 1) 0) (sym (R .labelled)) ∙ Q .before
 
-  in-next : k < s .next
+  in-next : k < s .nextIndex
   unfolding labelAt
-  in-next = subst (λ m. m < s .next) before (labelAt-next early-i (some (i - 1)))
+  in-next = subst (λ m. m < s .nextIndex) before (labelAt-next early-i (some (i - 1)))
 
   in-slots : k < length (s .clusters)
   in-slots = omega (arith, in-next, early-i .room)
@@ -94,8 +96,8 @@ module _ {o : RunnerConfig} {w h : ℕ} {image : List ℕ} {shift i x y n k : �
   so-far : (m : ℕ) → m < n → taken o w image (w * h) (i + suc m) ≡ addSpan image i x y (suc m) k s
   so-far m l = taken-span o w image (w * h) x y m span (inner-column (Q .inner)) (inner-row (Q .inner)) l
 
-  then-next : (m : ℕ) → m < n → taken o w image (w * h) (i + suc m) .next ≡ s .next
-  then-next m l = ap (λ v. v .next) (so-far m l) ∙ span-free image i x y (suc m) k s
+  then-next : (m : ℕ) → m < n → taken o w image (w * h) (i + suc m) .nextIndex ≡ s .nextIndex
+  then-next m l = ap (λ v. v .nextIndex) (so-far m l) ∙ span-free image i x y (suc m) k s
 
   then-slots : (m : ℕ) → m < n → length (taken o w image (w * h) (i + suc m) .clusters) ≡ length (s .clusters)
   then-slots m l = ap (λ v. length (v .clusters)) (so-far m l) ∙ span-slots image i x y (suc m) k s
@@ -103,7 +105,7 @@ module _ {o : RunnerConfig} {w h : ℕ} {image : List ℕ} {shift i x y n k : �
   then-cluster : (m : ℕ) → m < n → cluster (taken o w image (w * h) (i + suc m)) k ≡ withCluster (spanOf image i x y (suc m)) (cluster s k)
   then-cluster m l = ap (λ v. cluster v k) (so-far m l) ∙ span-cluster image i x y (suc m) k s in-slots
 
-  room-for : 21 * length (s .clusters) ≤ length t₀
+  room-for : slotWidth * length (s .clusters) ≤ length t₀
   room-for = omega (arith, early-i .short, inside, Q .taking .room)
 
   in-ends : k < length E
@@ -130,8 +132,8 @@ module _ {o : RunnerConfig} {w h : ℕ} {image : List ℕ} {shift i x y n k : �
       v : State
       v = taken o w image (w * h) (i + suc m)
 
-      state : taken o w image (w * h) (i + suc (suc m)) ≡ add (i + suc m) (pixel image (i + suc m)) (pixelRect (x + suc m) y) k v
-      state = so-far (suc m) l ∙ add-next image i x y k s (suc m) (omega arith) in-slots ∙ ap (add (i + suc m) (pixel image (i + suc m)) (pixelRect (x + suc m) y) k) (sym (so-far m (omega arith)))
+      state : taken o w image (w * h) (i + suc (suc m)) ≡ addPixel (i + suc m) (pixel image (i + suc m)) (pixelRect (x + suc m) y) k v
+      state = so-far (suc m) l ∙ add-next image i x y k s (suc m) (omega arith) in-slots ∙ ap (addPixel (i + suc m) (pixel image (i + suc m)) (pixelRect (x + suc m) y) k) (sym (so-far m (omega arith)))
 
       linked : linkedFrom K₁ i (suc m) ≡ linkAfter (linkedFrom K₁ i m) (area (cluster v k)) (getD (set E k (i + suc m)) k 0) (i + suc m + 1)
       linked =
@@ -191,7 +193,7 @@ module _ {o : RunnerConfig} {w h : ℕ} {image : List ℕ} {shift i x y : ℕ} {
     k : ℕ
     k = getD L (i - 1) 0
 
-    to-k : k < taken o w image (w * h) i .next
+    to-k : k < taken o w image (w * h) i .nextIndex
     unfolding k
     to-k = in-next extending
 

@@ -12,30 +12,33 @@ use lib.ListN.{length, getD, set, replicate, length-set, length-append}
 use Rattle.rules.specs.Base.{if_then_else_}
 use Rattle.rules.specs.Color.{Color, RunnerConfig, pixel, isDiscard, keyingOn}
 use Rattle.rules.specs.Grid.{up, left, upLeft}
-use Rattle.rules.specs.State.{State, Cluster, newCluster, cluster, area, pixelRect, withPixel, fresh, add, beginCluster, combine}
+use Rattle.rules.specs.State.{State, Cluster, newCluster, cluster, area, pixelRect, withPixel, fresh, addPixel, beginCluster, combineClusters}
 use Rattle.rules.specs.Stage1.{sameAt, labelAt, isKey, lowerNext, leftMeetsUp, place, combineThenPlace, takePixel, taken}
 use Rattle.rules.specs.Run.{stage1}
 use Rattle.rules.specs.Demand3.{Discarded}
 use Rattle.rules.proofs.Facts.{eqb-yes}
 use Rattle.rules.proofs.Basic.{combine-moved}
-use Rattle.rules.proofs.Early.{Early, left-earlier, up-earlier, labelAt-next, like-lit, combine-early, combine-empty, lower-early}
+use Rattle.rules.proofs.Early.{left-earlier, up-earlier, labelAt-next, like-lit, combine-early, combine-empty, lower-early}
 use Rattle.rules.proofs.Whole.{early-at}
+use Rattle.rules.specs.Layout.{slotWidth, pixelCountPlace}
+use Rattle.rules.specs.Code.Bounds.{countBound}
+use Rattle.rules.specs.Code.Early.{Early}
 use Rattle.runner.specs.declared.stage1.Into.{Into}
 use Rattle.runner.specs.declared.stage1.Into.the-variants.{Nowhere, Zero, Up, Left, Fresh}
-use Rattle.runner.specs.Slots.{clearedSlot}
-use Rattle.runner.specs.Rep.{Rep}
-use Rattle.runner.specs.Ops.{CanAdd, Added, CanAppend, Combined}
-use Rattle.runner.specs.Stage1.{Holding, meets, aim, aimed, isNowhere, Opened, slotFor, tableFor, nextFor, countFor, Placing, Meeting, Sided, Taking}
+use Rattle.runner.specs.Code.Slots.{clearedSlot}
+use Rattle.runner.specs.Code.Rep.{Rep}
+use Rattle.runner.specs.Code.Ops.{CanAdd, Added, CanAppend, Combined}
+use Rattle.runner.specs.Code.Stage1.{Holding, meets, goesBy, goesInto, isNowhere, Opened, slotFor, tableFor, nextFor, countFor, Placing, Meeting, Sided, Taking}
 use Rattle.runner.proofs.RepStage1.{rep-fresh, rep-lower, labels-long}
 use Rattle.runner.proofs.Spots.{spot-in}
 use Rattle.runner.proofs.Stage1Laws.{rep-is, at-is, in-table, next-in, slot-in, few, count-of, can-add, can-begin, rep-added, rep-begun, can-append, rep-combined}
 
 module _ {o : RunnerConfig} {w h : ℕ} {image : List ℕ} {shift i x y l u : ℕ} {s : State} {t₀ L K B E : List ℕ} {n m : ℕ} (P : Placing o w h image shift i x y l u s t₀ L K B E n m) where
   module _ {c : Color} (e : c ≡ pixel image i) where
-    held-add : {L′ K′ B′ E′ : List ℕ} (k : ℕ) → k < s .next → Added k i x y c L K B E L′ K′ B′ E′ → Holding (w * h) (add i (pixel image i) (pixelRect (i % w) (i / w)) k s) t₀ L′ K′ B′ E′ n m
-    unfolding add
+    held-add : {L′ K′ B′ E′ : List ℕ} (k : ℕ) → k < s .nextIndex → Added k i x y c L K B E L′ K′ B′ E′ → Holding (w * h) (addPixel i (pixel image i) (pixelRect (i % w) (i / w)) k s) t₀ L′ K′ B′ E′ n m
+    unfolding addPixel
     held-add {L′} {K′} {B′} {E′} k z A = record {
-      rep = subst (λ r. Rep (w * h) (add i (pixel image i) r k s) t₀ L′ K′ B′ E′) (at-is P) (rep-added P e k z A);
+      rep = subst (λ r. Rep (w * h) (addPixel i (pixel image i) r k s) t₀ L′ K′ B′ E′) (at-is P) (rep-added P e k z A);
       free = P .holding .free;
       slots = P .holding .slots ∙ sym (length-set (s .clusters) k (withPixel i (pixel image i) (pixelRect (i % w) (i / w)) (cluster s k)));
     }
@@ -45,32 +48,32 @@ module _ {o : RunnerConfig} {w h : ℕ} {image : List ℕ} {shift i x y l u : �
     held-begin {L′} {K′} {B′} {E′} A = record {
       rep = subst (λ r. Rep (w * h) (beginCluster i (pixel image i) r s) t₀ L′ K′ B′ E′) (at-is P) (rep-begun P e A);
       free = ap (λ k. k + 1) (P .holding .free);
-      slots = ap₂ (λ a b. if ltb a b then b else a + 1) (P .holding .free) (P .holding .slots) ∙ pick (ltb (s .next) (length (s .clusters))) refl;
+      slots = ap₂ (λ a b. if ltb a b then b else a + 1) (P .holding .free) (P .holding .slots) ∙ pick (ltb (s .nextIndex) (length (s .clusters))) refl;
     }
       where
         z : Cluster
         z = withPixel i (pixel image i) (pixelRect (i % w) (i / w)) newCluster
 
-        pick : (b : Bool) → ltb (s .next) (length (s .clusters)) ≡ b → (if b then length (s .clusters) else s .next + 1) ≡ length (if b then set (s .clusters) (s .next) z else s .clusters ++ (z ∷ []))
-        pick true q = sym (length-set (s .clusters) (s .next) z)
+        pick : (b : Bool) → ltb (s .nextIndex) (length (s .clusters)) ≡ b → (if b then length (s .clusters) else s .nextIndex + 1) ≡ length (if b then set (s .clusters) (s .nextIndex) z else s .clusters ++ (z ∷ []))
+        pick true q = sym (length-set (s .clusters) (s .nextIndex) z)
         pick false q =
-            let r : length (s .clusters) ≤ s .next = nltb→le (s .next) (length (s .clusters)) (subst (λ b. T (not b)) (sym q) tt) in
+            let r : length (s .clusters) ≤ s .nextIndex = nltb→le (s .nextIndex) (length (s .clusters)) (subst (λ b. T (not b)) (sym q) tt) in
             omega (arith, P .early .room, length-append (s .clusters) (z ∷ []))
 
   place-is : (a b c d : Bool) → isKey o image i ≡ a → isDiscard (o .keyingAction) ≡ b → sameAt o image (some i) (up w i) && sameAt o image (some i) (upLeft w i) ≡ c
       → sameAt o image (some i) (left w i) && sameAt o image (some i) (upLeft w i) ≡ d
-      → (if a then (if b then s else add i (pixel image i) (pixelRect (i % w) (i / w)) 0 s)
-      else (if c then add i (pixel image i) (pixelRect (i % w) (i / w)) u s
-      else (if d then add i (pixel image i) (pixelRect (i % w) (i / w)) l s else beginCluster i (pixel image i) (pixelRect (i % w) (i / w)) s)))
+      → (if a then (if b then s else addPixel i (pixel image i) (pixelRect (i % w) (i / w)) 0 s)
+      else (if c then addPixel i (pixel image i) (pixelRect (i % w) (i / w)) u s
+      else (if d then addPixel i (pixel image i) (pixelRect (i % w) (i / w)) l s else beginCluster i (pixel image i) (pixelRect (i % w) (i / w)) s)))
       ≡ place o w image i l u s
   unfolding place
   place-is a b c d e₁ e₂ e₃ e₄ = rw (e₁, e₂, e₃, e₄)
 
   -- a pixel that goes nowhere changes nothing
-  pub gone : isNowhere (aimed o w image i) ≡ true → Holding (w * h) (place o w image i l u s) t₀ L K B E n m
+  pub gone : isNowhere (goesInto o w image i) ≡ true → Holding (w * h) (place o w image i l u s) t₀ L K B E n m
   gone = go (isKey o image i) (isDiscard (o .keyingAction)) refl refl (sameAt o image (some i) (upLeft w i)) (sameAt o image (some i) (up w i)) (sameAt o image (some i) (left w i))
     where
-      go : (a b : Bool) → isKey o image i ≡ a → isDiscard (o .keyingAction) ≡ b → (p q r : Bool) → isNowhere (aim a b p q r) ≡ true → Holding (w * h) (place o w image i l u s) t₀ L K B E n m
+      go : (a b : Bool) → isKey o image i ≡ a → isDiscard (o .keyingAction) ≡ b → (p q r : Bool) → isNowhere (goesBy a b p q r) ≡ true → Holding (w * h) (place o w image i l u s) t₀ L K B E n m
       go true true e₁ e₂ p q r z = subst (λ v. Holding (w * h) v t₀ L K B E n m) (place-is true true _ _ e₁ e₂ refl refl) (P .holding)
       go true false e₁ e₂ p q r z = absurd (true≢false (sym z))
       go false b e₁ e₂ true true r z = absurd (true≢false (sym z))
@@ -79,7 +82,7 @@ module _ {o : RunnerConfig} {w h : ℕ} {image : List ℕ} {shift i x y l u : �
       go false b e₁ e₂ false q r z = absurd (true≢false (sym z))
 
   -- slot next is there
-  pub next-slot : (21 * n + 21 ≤ length B) × (n < 2000000)
+  pub next-slot : (slotWidth * n + slotWidth ≤ length B) × (n < countBound)
   next-slot = (omega (arith, P .holding .free, next-in P), omega (arith, P .holding .free, few P))
 
   module _ {c : Color} (e : c ≡ pixel image i) {B″ : List ℕ} {k n′ m′ : ℕ} {to : Into} where
@@ -95,19 +98,19 @@ module _ {o : RunnerConfig} {w h : ℕ} {image : List ℕ} {shift i x y l u : �
         go Fresh = can-begin P e
 
     -- and then holds it, as the steps say
-    pub takes : {L′ K′ B′ E′ : List ℕ} → to ≡ aimed o w image i → isNowhere to ≡ false → Opened to l u n m B B″ k n′ m′ → Added k i x y c L K B″ E L′ K′ B′ E′ → Holding (w * h) (place o w image i l u s) t₀ L′ K′ B′ E′ n′ m′
+    pub takes : {L′ K′ B′ E′ : List ℕ} → to ≡ goesInto o w image i → isNowhere to ≡ false → Opened to l u n m B B″ k n′ m′ → Added k i x y c L K B″ E L′ K′ B′ E′ → Holding (w * h) (place o w image i l u s) t₀ L′ K′ B′ E′ n′ m′
     takes {L′} {K′} {B′} {E′} f z O A =
         go (isKey o image i) (isDiscard (o .keyingAction)) (sameAt o image (some i) (upLeft w i)) (sameAt o image (some i) (up w i)) (sameAt o image (some i) (left w i)) refl refl refl refl refl (sym (ap isNowhere f) ∙ z)
         (O .slot ∙ ap (λ v. slotFor v l u n) f) (O .table ∙ ap (λ v. tableFor v n B) f) (O .free ∙ ap (λ v. nextFor v n) f) (O .slots ∙ ap (λ v. countFor v n m) f)
       where
         held : {st : State} {a b : ℕ} → st ≡ place o w image i l u s → n′ ≡ a → m′ ≡ b → Holding (w * h) st t₀ L′ K′ B′ E′ a b → Holding (w * h) (place o w image i l u s) t₀ L′ K′ B′ E′ n′ m′
-        held {st} p q r H = record { rep = subst (λ v. Rep (w * h) v t₀ L′ K′ B′ E′) p (H .rep); free = q ∙ H .free ∙ ap (λ v. v .next) p; slots = r ∙ H .slots ∙ ap (λ v. length (v .clusters)) p }
+        held {st} p q r H = record { rep = subst (λ v. Rep (w * h) v t₀ L′ K′ B′ E′) p (H .rep); free = q ∙ H .free ∙ ap (λ v. v .nextIndex) p; slots = r ∙ H .slots ∙ ap (λ v. length (v .clusters)) p }
 
         added : {j : ℕ} {b : List ℕ} → k ≡ j → B″ ≡ b → Added j i x y c L K b E L′ K′ B′ E′
         added {j} {b} p q = subst (λ v. Added v i x y c L K b E L′ K′ B′ E′) p (subst (λ v. Added k i x y c L K v E L′ K′ B′ E′) q A)
 
         go : (a b p q r : Bool) → isKey o image i ≡ a → isDiscard (o .keyingAction) ≡ b → sameAt o image (some i) (upLeft w i) ≡ p → sameAt o image (some i) (up w i) ≡ q → sameAt o image (some i) (left w i) ≡ r
-            → isNowhere (aim a b p q r) ≡ false → k ≡ slotFor (aim a b p q r) l u n → B″ ≡ tableFor (aim a b p q r) n B → n′ ≡ nextFor (aim a b p q r) n → m′ ≡ countFor (aim a b p q r) n m
+            → isNowhere (goesBy a b p q r) ≡ false → k ≡ slotFor (goesBy a b p q r) l u n → B″ ≡ tableFor (goesBy a b p q r) n B → n′ ≡ nextFor (goesBy a b p q r) n → m′ ≡ countFor (goesBy a b p q r) n m
             → Holding (w * h) (place o w image i l u s) t₀ L′ K′ B′ E′ n′ m′
         go true true p q r e₁ e₂ e₃ e₄ e₅ z s₁ s₂ s₃ s₄ = absurd (true≢false z)
         go true false p q r e₁ e₂ e₃ e₄ e₅ z s₁ s₂ s₃ s₄ = held (place-is true false _ _ e₁ e₂ refl refl) s₃ s₄ (held-add e 0 (P .early .some) (added s₁ s₂))
@@ -119,27 +122,27 @@ module _ {o : RunnerConfig} {w h : ℕ} {image : List ℕ} {shift i x y l u : �
 -- ---- two clusters meet
 
 module _ {o : RunnerConfig} {w h : ℕ} {image : List ℕ} {shift i x y l u : ℕ} {s : State} {t₀ L K B E : List ℕ} {n m : ℕ} (M : Meeting o w h image shift i x y l u s t₀ L K B E n m) where
-  hl : l < s .next
+  hl : l < s .nextIndex
   hl = M .placing .to-left
 
-  hu : u < s .next
+  hu : u < s .nextIndex
   hu = M .placing .to-up
 
   up-differs : u ≢ l
   up-differs e = M .differ (sym e)
 
   -- a merge leaves as many slots
-  counted : (f t : ℕ) → f ≢ t → f < s .next → t < s .next → m ≡ length (combine f t s .clusters)
+  counted : (f t : ℕ) → f ≢ t → f < s .nextIndex → t < s .nextIndex → m ≡ length (combineClusters f t s .clusters)
   counted f t d hf ht = M .placing .holding .slots ∙ sym (combine-moved f t s d (in-table (M .placing) f hf) (in-table (M .placing) t ht) .table)
 
   -- the counts can be read
-  pub left-in : 21 * l + 21 ≤ length B
+  pub left-in : slotWidth * l + slotWidth ≤ length B
   left-in = slot-in (M .placing) l hl
 
-  pub up-in : 21 * u + 21 ≤ length B
+  pub up-in : slotWidth * u + slotWidth ≤ length B
   up-in = slot-in (M .placing) u hu
 
-  pub left-few : l < 2000000
+  pub left-few : l < countBound
   left-few = omega (arith, hl, few (M .placing))
 
   pub left-into-up : CanAppend l u L K B E
@@ -151,8 +154,8 @@ module _ {o : RunnerConfig} {w h : ℕ} {image : List ℕ} {shift i x y l u : �
   module _ {L′ K′ B′ E′ : List ℕ} where
     -- left went into up
     met-up : {n′ m′ : ℕ} → Combined l u L K B E L′ K′ B′ E′ → n′ ≡ (if eqb (l + 1) n && eqb n m then n - 1 else n) → m′ ≡ m
-        → Placing o w h image shift i x y u u (lowerNext l (combine l u s)) t₀ L′ K′ B′ E′ n′ m′
-    unfolding lowerNext combine
+        → Placing o w h image shift i x y u u (lowerNext l (combineClusters l u s)) t₀ L′ K′ B′ E′ n′ m′
+    unfolding lowerNext combineClusters
     met-up C a b = record {
       given = M .placing .given;
       spot = M .placing .spot;
@@ -167,14 +170,14 @@ module _ {o : RunnerConfig} {w h : ℕ} {image : List ℕ} {shift i x y l u : �
       to-up = lowered .1;
     }
       where
-        lowered : Early image (w * h) (Discarded o image) (T (keyingOn o)) i (lowerNext l (combine l u s)) × (u < lowerNext l (combine l u s) .next)
+        lowered : Early image (w * h) (Discarded o image) (T (keyingOn o)) i (lowerNext l (combineClusters l u s)) × (u < lowerNext l (combineClusters l u s) .nextIndex)
         lowered =
-            lower-early o w i l u (combine l u s) (combine-early i l u s (M .placing .early) (M .differ) hl hu (M .up-keyed)) (M .differ) hu
+            lower-early o w i l u (combineClusters l u s) (combine-early i l u s (M .placing .early) (M .differ) hl hu (M .up-keyed)) (M .differ) hu
             (combine-empty i l u s (M .placing .early) (M .differ) hl hu (M .up-keyed))
 
     -- up went into left
-    met-left : Combined u l L K B E L′ K′ B′ E′ → Placing o w h image shift i x y l l (combine u l s) t₀ L′ K′ B′ E′ n m
-    unfolding combine
+    met-left : Combined u l L K B E L′ K′ B′ E′ → Placing o w h image shift i x y l l (combineClusters u l s) t₀ L′ K′ B′ E′ n m
+    unfolding combineClusters
     met-left C = record {
       given = M .placing .given;
       spot = M .placing .spot;
@@ -186,19 +189,19 @@ module _ {o : RunnerConfig} {w h : ℕ} {image : List ℕ} {shift i x y l u : �
     }
 
     -- which of the two, by the counts that the code reads
-    pub sided-up : {n′ m′ : ℕ} → getD B (21 * l + 1) 0 ≤ getD B (21 * u + 1) 0 → Combined l u L K B E L′ K′ B′ E′ → n′ ≡ (if eqb (l + 1) n && eqb n m then n - 1 else n) → m′ ≡ m
+    pub sided-up : {n′ m′ : ℕ} → getD B (slotWidth * l + pixelCountPlace) 0 ≤ getD B (slotWidth * u + pixelCountPlace) 0 → Combined l u L K B E L′ K′ B′ E′ → n′ ≡ (if eqb (l + 1) n && eqb n m then n - 1 else n) → m′ ≡ m
         → Sided o w h image shift i x y (combineThenPlace o w image i l u s) t₀ L′ K′ B′ E′ u u n′ m′
     unfolding combineThenPlace
     sided-up z C a b = record {
-      state = lowerNext l (combine l u s);
+      state = lowerNext l (combineClusters l u s);
       placing = met-up C a b;
       placed = rw (le-leb (area (cluster s l)) (area (cluster s u)) (omega (arith, count-of (M .placing) l hl, count-of (M .placing) u hu)));
     }
 
-    pub sided-left : getD B (21 * u + 1) 0 < getD B (21 * l + 1) 0 → Combined u l L K B E L′ K′ B′ E′ → Sided o w h image shift i x y (combineThenPlace o w image i l u s) t₀ L′ K′ B′ E′ l l n m
+    pub sided-left : getD B (slotWidth * u + pixelCountPlace) 0 < getD B (slotWidth * l + pixelCountPlace) 0 → Combined u l L K B E L′ K′ B′ E′ → Sided o w h image shift i x y (combineThenPlace o w image i l u s) t₀ L′ K′ B′ E′ l l n m
     unfolding combineThenPlace
     sided-left z C = record {
-      state = combine u l s;
+      state = combineClusters u l s;
       placing = met-left C;
       placed = rw (lt-leb (area (cluster s l)) (area (cluster s u)) (omega (arith, count-of (M .placing) l hl, count-of (M .placing) u hu)));
     }
@@ -279,7 +282,7 @@ taken-so {w = w} {h = h} {t₀ = t₀} {L′ = L′} {K′ = K′} {B′ = B′}
 
 -- before the first
 pub held-fresh : (o : RunnerConfig) (w : ℕ) (image : List ℕ) (size : ℕ) {L K B E : List ℕ} → L ≡ replicate size 0 → K ≡ replicate size 0 → length E ≡ 2 * (size + 1)
-    → (t₀ : List ℕ) → B ≡ clearedSlot t₀ 0 → 21 * (size + 1) ≤ length t₀ → Holding size (taken o w image size 0) t₀ L K B E 1 1
+    → (t₀ : List ℕ) → B ≡ clearedSlot t₀ 0 → slotWidth * (size + 1) ≤ length t₀ → Holding size (taken o w image size 0) t₀ L K B E 1 1
 unfolding taken fresh
 held-fresh o w image size {E = E} a b d t₀ e l = record { rep = rep-is a b e refl (rep-fresh size t₀ E d (omega arith)); free = refl; slots = refl }
 

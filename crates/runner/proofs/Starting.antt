@@ -8,13 +8,15 @@ use Rattle.rules.specs.Color.{RunnerConfig}
 use Rattle.rules.specs.State.{State, Cluster, newCluster, cluster, area, withResidue}
 use Rattle.rules.specs.Stage2.{prepareStage2}
 use Rattle.rules.specs.Run.{stage1}
-use Rattle.rules.specs.Order.{largest, start, turns}
+use Rattle.rules.specs.Code.Order.{largest, start, turns}
 use Rattle.rules.proofs.Early.{settled}
 use Rattle.rules.proofs.Whole.{early}
 use Rattle.rules.proofs.Ranges.{turns-ranged}
-use Rattle.runner.specs.Rep.{Table, Rep, slotsOf}
-use Rattle.runner.specs.Queue.{Sized, Tree, Keyed, Built, stored}
-use Rattle.runner.specs.Stage2.{part, withPart, queuePart, Prepared, Between, Entered, CanStage2}
+use Rattle.rules.specs.Layout.{slotWidth}
+use Rattle.rules.specs.Code.Bounds.{countBound}
+use Rattle.runner.specs.Code.Rep.{Table, Rep, slotsOf}
+use Rattle.runner.specs.Code.Queue.{Sized, Tree, Keyed, Built, queueKey}
+use Rattle.runner.specs.Code.Stage2.{part, withPart, queuePart, Prepared, Between, Entered, CanStage2}
 use Rattle.runner.proofs.Parts.{part-length, length-with, part-with, part-after}
 use Rattle.runner.proofs.RepStage2.{rep-prepare}
 
@@ -34,13 +36,13 @@ module _ {o : RunnerConfig} {w h : ℕ} {image t₀ L K B W : List ℕ} {n : ℕ
   few-slots : n ≤ w * h + 1
   few-slots = omega (arith, E .slots, early o w h image .short)
 
-  table-fits : 21 * n ≤ length t₀
+  table-fits : slotWidth * n ≤ length t₀
   table-fits = omega (arith, few-slots, E .table-fits)
 
   queue-length : length (queuePart (w * h + 1) W) ≡ 3 * (w * h + 1)
   queue-length = part-length W 0 (3 * (w * h + 1)) (omega (arith, S .work)) ∙ omega arith
 
-  pub preparing-fits : (21 * n ≤ length B) × (n ≤ length (queuePart (w * h + 1) W)) × (n ≤ 2000000)
+  pub preparing-fits : (slotWidth * n ≤ length B) × (n ≤ length (queuePart (w * h + 1) W)) × (n ≤ countBound)
   preparing-fits = (omega (arith, E .rep .tabled .long, table-fits), omega (arith, queue-length, few-slots), omega (arith, few-slots, S .image-fits .small))
 
   module _ {B′ Q : List ℕ} {top : ℕ} (P : Prepared n B (queuePart (w * h + 1) W) B′ Q top) (e : length Q ≡ length (queuePart (w * h + 1) W)) where
@@ -105,7 +107,7 @@ module _ {o : RunnerConfig} {w h : ℕ} {image t₀ L K B W : List ℕ} {n : ℕ
             wide = length-map (prepareStage2 s .clusters) area ∙ slots ∙ sym (E .slots);
             below = λ j l. omega (arith, key j, turns-ranged image (S .image-fits .bytes) o w h 0 .areas j, S .image-fits .small);
             keyed = λ j l. M .keys j (omega (arith, few-slots)) ∙ ap (λ x. getD x j 0) queue-is ∙ P .keys s t₀ (E .slots) table-fits (subst (λ x. Table x (slotsOf s) t₀ B) (sym (E .slots)) (E .rep .tabled)) j l
-                ∙ ap stored (sym (key j ∙ area-same j));
+                ∙ ap queueKey (sym (key j ∙ area-same j));
           });
           marked = λ j. omega (arith, ap (λ x. getD x j 0) (same (5 * (w * h + 1)) (6 * (w * h + 1)) (omega arith)), S .marks j);
           entries = sym (ap length (early o w h image .quiet));

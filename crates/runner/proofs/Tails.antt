@@ -16,7 +16,7 @@ use Rattle.rules.specs.Layout.{after, firstOf, link, links}
 use Rattle.rules.specs.Claim.{occurs}
 use Rattle.rules.proofs.Links.{last, last-in, after-last, Tailed, was-t, tail-joint, tail-keeps}
 use Rattle.rules.proofs.Layouts.{links-length, links-at}
-use Rattle.runner.specs.Rep.{lastOf, linkAfter}
+use Rattle.runner.specs.Code.Rep.{lastOf, linkAfter}
 
 pub lastOf-last : (xs : List ℕ) → 0 < length xs → lastOf xs ≡ suc (last xs)
 unfolding lastOf last

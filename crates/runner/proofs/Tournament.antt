@@ -14,7 +14,7 @@ use Rattle.rules.specs.Base.{if_then_else_}
 use Rattle.rules.proofs.Facts.{both-true}
 use Rattle.runner.specs.declared.queue.Entry.{Entry}
 use Rattle.runner.specs.declared.queue.Taken.{Taken}
-use Rattle.runner.specs.Queue.{Sized, leaf, node, entryAt, rankOf, firstOf, besideOf, holding, firstBelow, Tree, refreshed, Refreshed, First}
+use Rattle.runner.specs.Code.Queue.{Sized, leaf, node, entryAt, orderOf, firstEntry, besideOf, withNode, firstBelow, Tree, refreshed, Refreshed, First}
 
 -- ---- the order of entries
 
@@ -35,8 +35,8 @@ before-trans a b c (inr x) (inr y) = inr (x .0 ∙ y .0, omega (arith, x .1, y .
 abbrev Chosen : Entry → Entry → Entry → Type 0
 Chosen a b c = Before c a × Before c b × ((c ≡ a) ⊎ (c ≡ b))
 
-first-of : (a b : Entry) → Chosen a b (firstOf a b)
-unfolding firstOf
+first-of : (a b : Entry) → Chosen a b (firstEntry a b)
+unfolding firstEntry
 first-of a b = keys (ltb (a .key) (b .key)) refl
   where
     slots : (t : Bool) → ltb (a .slot) (b .slot) ≡ t → a .key ≡ b .key → Chosen a b (if t then a else b)
@@ -58,13 +58,13 @@ before-antisym a b (inr x) (inl y) = absurd (omega (arith, x .0))
 before-antisym a b (inr x) (inr y) = ap₂ (λ k s. record { key = k; slot = s }) (x .0) (let z : a .slot ≡ b .slot = omega (arith, x .1, y .1) in z)
 
 -- which of two entries stands first in the tree does not matter
-first-either : (a b : Entry) → firstOf a b ≡ firstOf b a
-first-either a b = before-antisym (firstOf a b) (firstOf b a) (come (firstOf a b) b a (F .1) (F .0) (G .2)) (come (firstOf b a) a b (G .1) (G .0) (F .2))
+first-either : (a b : Entry) → firstEntry a b ≡ firstEntry b a
+first-either a b = before-antisym (firstEntry a b) (firstEntry b a) (come (firstEntry a b) b a (F .1) (F .0) (G .2)) (come (firstEntry b a) a b (G .1) (G .0) (F .2))
   where
-    F : Chosen a b (firstOf a b)
+    F : Chosen a b (firstEntry a b)
     F = first-of a b
 
-    G : Chosen b a (firstOf b a)
+    G : Chosen b a (firstEntry b a)
     G = first-of b a
 
     come : (c x y : Entry) → Before c x → Before c y → {d : Entry} → (d ≡ x) ⊎ (d ≡ y) → Before c d
@@ -73,13 +73,13 @@ first-either a b = before-antisym (firstOf a b) (firstOf b a) (come (firstOf a b
 
 -- the first of two entries, by their ranks
 module _ (a b : Entry) (la : a .slot < 4294967296) (lb : b .slot < 4294967296) where
-  pub rank-before : rankOf a < rankOf b → a ≡ firstOf a b
-  unfolding firstOf
+  pub rank-before : orderOf a < orderOf b → a ≡ firstEntry a b
+  unfolding firstEntry
   rank-before l = by-cases (decLt (a .key) (b .key)) (λ y. rw (lt-ltb (a .key) (b .key) y))
       (λ y. rw (le-ltb (a .key) (b .key) (omega arith), le-ltb (b .key) (a .key) (omega arith), lt-ltb (a .slot) (b .slot) (omega arith)))
 
-  pub rank-after : rankOf b ≤ rankOf a → b ≡ firstOf a b
-  unfolding firstOf
+  pub rank-after : orderOf b ≤ orderOf a → b ≡ firstEntry a b
+  unfolding firstEntry
   rank-after l = by-cases (decLt (b .key) (a .key)) (λ y. rw (le-ltb (a .key) (b .key) (omega arith), lt-ltb (b .key) (a .key) y))
       (λ y. rw (le-ltb (a .key) (b .key) (omega arith), le-ltb (b .key) (a .key) (omega arith), le-ltb (a .slot) (b .slot) (omega arith)))
 
@@ -98,10 +98,10 @@ pub beside-in : (n x : ℕ) → 1 < x → x < 2 * n → besideOf x < 2 * n
 beside-in n x l b = beside x (λ y. y < 2 * n) (λ e. omega arith) (λ e. omega arith)
 
 -- an entry and the one beside it are the children of the node above
-pub first-beside : (queue : List ℕ) (n room x : ℕ) → firstOf (entryAt queue n room x) (entryAt queue n room (besideOf x)) ≡ firstBelow queue n room (x / 2)
-first-beside queue n room x = beside x (λ y. firstOf (entryAt queue n room x) (entryAt queue n room y) ≡ firstBelow queue n room (x / 2))
-    (λ e. ap (λ y. firstOf (entryAt queue n room y) (entryAt queue n room (y + 1))) e)
-    (λ e. let z : x - 1 ≡ 2 * (x / 2) = omega arith in first-either (entryAt queue n room x) (entryAt queue n room (x - 1)) ∙ ap₂ (λ i j. firstOf (entryAt queue n room i) (entryAt queue n room j)) z e)
+pub first-beside : (queue : List ℕ) (n room x : ℕ) → firstEntry (entryAt queue n room x) (entryAt queue n room (besideOf x)) ≡ firstBelow queue n room (x / 2)
+first-beside queue n room x = beside x (λ y. firstEntry (entryAt queue n room x) (entryAt queue n room y) ≡ firstBelow queue n room (x / 2))
+    (λ e. ap (λ y. firstEntry (entryAt queue n room y) (entryAt queue n room (y + 1))) e)
+    (λ e. let z : x - 1 ≡ 2 * (x / 2) = omega arith in first-either (entryAt queue n room x) (entryAt queue n room (x - 1)) ∙ ap₂ (λ i j. firstEntry (entryAt queue n room i) (entryAt queue n room j)) z e)
 
 module _ (queue : List ℕ) (n room x : ℕ) where
   pub at-leaf : n ≤ x → entryAt queue n room x ≡ leaf queue (x - n)
@@ -212,21 +212,21 @@ module _ (queue : List ℕ) (n room : ℕ) (S : Sized n room (length queue)) (j 
       (λ e. made-other i (omega arith) e ∙ h e ∙ sym below)
     where
       below : firstBelow (refreshed queue n room j) n room i ≡ firstBelow queue n room i
-      below = ap₂ firstOf (made-other (2 * i) (omega arith) (λ e. d (omega arith))) (made-other (2 * i + 1) (omega arith) (λ e. d (omega arith)))
+      below = ap₂ firstEntry (made-other (2 * i) (omega arith) (λ e. d (omega arith))) (made-other (2 * i + 1) (omega arith) (λ e. d (omega arith)))
 
 -- ---- the store of one node
 
 module _ (queue : List ℕ) (n room j : ℕ) (e : Entry) (is : e ≡ firstBelow queue n room j) where
-  pub held-node : holding queue room j e ≡ refreshed queue n room j
+  pub held-node : withNode queue room j e ≡ refreshed queue n room j
   unfolding refreshed
-  held-node = ap (holding queue room j) is
+  held-node = ap (withNode queue room j) is
 
   -- a node that holds it already needs no store
   pub kept-node : j < n → (old : Entry) → old ≡ entryAt queue n room j → (eqb (old .key) (e .key) && eqb (old .slot) (e .slot)) ≡ true → queue ≡ refreshed queue n room j
   kept-node l old at t =
       let b = both-true (eqb (old .key) (e .key)) (eqb (old .slot) (e .slot)) t in
       let z : node queue room j ≡ e = sym (at-node queue n room j l) ∙ sym at ∙ ap₂ (λ k s. record { key = k; slot = s }) (eqb-true (old .key) (e .key) (b .0)) (eqb-true (old .slot) (e .slot) (b .1)) in
-      sym (set-getD queue (room + 2 * j + 1) 0) ∙ ap (λ q. set q (room + 2 * j + 1) (getD queue (room + 2 * j + 1) 0)) (sym (set-getD queue (room + 2 * j) 0)) ∙ ap (holding queue room j) z ∙ held-node
+      sym (set-getD queue (room + 2 * j + 1) 0) ∙ ap (λ q. set q (room + 2 * j + 1) (getD queue (room + 2 * j + 1) 0)) (sym (set-getD queue (room + 2 * j) 0)) ∙ ap (withNode queue room j) z ∙ held-node
 
 -- ---- a changed key
 
@@ -251,7 +251,7 @@ climb-start queue n room k v S b H = record {
   long = refl;
   inside = omega arith;
   stands = sym (at-leaf (set queue k v) n room (n + k) (omega arith) ∙ ap (leaf (set queue k v)) (let z : n + k - n ≡ k = omega arith in z) ∙ ap (λ y. record { key = y; slot = k }) (getD-set-same queue k v 0 (omega (arith, S .within, S .fits))));
-  but = λ i p q d. same i (omega arith) (omega arith) ∙ H i p q ∙ sym (ap₂ firstOf (same (2 * i) (omega arith) (λ e. d (omega arith))) (same (2 * i + 1) (omega arith) (λ e. d (omega arith))));
+  but = λ i p q d. same i (omega arith) (omega arith) ∙ H i p q ∙ sym (ap₂ firstEntry (same (2 * i) (omega arith) (λ e. d (omega arith))) (same (2 * i + 1) (omega arith) (λ e. d (omega arith))));
   keys = λ x l. refl;
 }
   where

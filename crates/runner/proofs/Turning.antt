@@ -8,14 +8,14 @@ use native.Mathlib.Omega.{arith}
 use lib.ListN.{length}
 use Rattle.rules.specs.Color.{RunnerConfig}
 use Rattle.rules.specs.Run.{stage1, stage2}
-use Rattle.rules.specs.Order.{Queue, queue, largest, rekey, turns}
+use Rattle.rules.specs.Code.Order.{Queue, queue, largest, rekey, turns}
 use Rattle.rules.proofs.Whole.{early}
 use Rattle.rules.proofs.Order.{turns-few, turns-end}
 use Rattle.rules.proofs.Turns.{turn-ready, turns-table}
 use Rattle.runner.specs.declared.queue.Entry.{Entry}
 use Rattle.runner.specs.declared.stage2.Turns.{Turns}
-use Rattle.runner.specs.Queue.{Sized, Tree, KeySet, First}
-use Rattle.runner.specs.Stage2.{withPart, queuePart, Carried, queueAt, visitAt, Between, Chosen, Visiting, Visited, Staged}
+use Rattle.runner.specs.Code.Queue.{Sized, Tree, KeySet, First}
+use Rattle.runner.specs.Code.Stage2.{withPart, queuePart, Carried, queueAt, visitAt, Between, Chosen, Visiting, Visited, Staged}
 use Rattle.runner.proofs.Parts.{part-length}
 use Rattle.runner.proofs.Queues.{first-some, first-none}
 use Rattle.runner.proofs.Carried.{carried-queue}

@@ -7,30 +7,33 @@ use lib.Dec.{T, leb, ltb, lit≤, lit<}
 use mir.Syntax.{w32, w64}
 use mir.Val.{Fits}
 use Rattle.rules.proofs.Fits.{slot-in}
+use Rattle.rules.specs.Layout.{slotWidth}
+use Rattle.rules.specs.Refusals.{limit}
+use Rattle.rules.specs.Code.Bounds.{countBound, capacity}
 
 -- the offset in bytes of a number of a list
 pub offset-fits : {i : ℕ} → Fits w32 i → Fits w64 (i * 4)
 offset-fits f = omega arith
 
 -- where a slot begins
-pub slot-begins : {k : ℕ} → Fits w32 k → Fits w64 (21 * k)
+pub slot-begins : {k : ℕ} → Fits w32 k → Fits w64 (slotWidth * k)
 slot-begins f = omega arith
 
 -- small numbers
-pub next-fits : {i : ℕ} → i < 2000000 → Fits w32 (i + 1)
+pub next-fits : {i : ℕ} → i < countBound → Fits w32 (i + 1)
 next-fits l = omega arith
 
-pub sum-fits : {i j : ℕ} → i < 2000000 → j < 2000000 → Fits w32 (i + j)
+pub sum-fits : {i j : ℕ} → i < countBound → j < countBound → Fits w32 (i + j)
 sum-fits l m = omega arith
 
-pub sum-widens : {i j : ℕ} → i < 2000000 → j < 2000000 → Fits w64 (i + j)
+pub sum-widens : {i j : ℕ} → i < countBound → j < countBound → Fits w64 (i + j)
 sum-widens l m = omega arith
 
-pub sum-offset : {i j : ℕ} → i < 2000000 → j < 2000000 → Fits w64 ((i + j) * 4)
+pub sum-offset : {i j : ℕ} → i < countBound → j < countBound → Fits w64 ((i + j) * 4)
 sum-offset l m = omega arith
 
 -- number j of slot k is in a table that is as long as before
-pub slot-kept : (k : ℕ) {m n : ℕ} → m ≡ n → 21 * k + 21 ≤ n → (j : ℕ) → T (ltb j 21) → 21 * k + j < m
+pub slot-kept : (k : ℕ) {m n : ℕ} → m ≡ n → slotWidth * k + slotWidth ≤ n → (j : ℕ) → T (ltb j slotWidth) → slotWidth * k + j < m
 slot-kept k e l j h = rw e (slot-in k l j h)
 
 -- the end of part k of a work buffer of so many slots fits, and so does its offset in bytes
@@ -52,22 +55,22 @@ pub same-long : {l m n r : ℕ} → l ≡ m → m ≡ r → n ≡ r → l ≡ n
 same-long e f g = omega arith
 
 -- the size of an image, and the room for its slots
-pub within : {n : ℕ} → n ≤ 65000 → n ≤ 1048576
+pub within : {n : ℕ} → n ≤ limit → n ≤ capacity
 within l = omega arith
 
-pub size-fits : {n : ℕ} → n ≤ 1048576 → Fits w32 n
+pub size-fits : {n : ℕ} → n ≤ capacity → Fits w32 n
 size-fits l = omega arith
 
-pub size-widens : {n : ℕ} → n ≤ 1048576 → Fits w64 n
+pub size-widens : {n : ℕ} → n ≤ capacity → Fits w64 n
 size-widens l = omega arith
 
-pub room-narrow : {n : ℕ} → n ≤ 1048576 → Fits w32 (n + 1)
+pub room-narrow : {n : ℕ} → n ≤ capacity → Fits w32 (n + 1)
 room-narrow l = omega arith
 
-pub room-fits : {n : ℕ} → n ≤ 1048576 → Fits w64 (n + 1)
+pub room-fits : {n : ℕ} → n ≤ capacity → Fits w64 (n + 1)
 room-fits l = omega arith
 
-pub room-small : {n : ℕ} → n ≤ 1048576 → n + 1 ≤ 2000000
+pub room-small : {n : ℕ} → n ≤ capacity → n + 1 ≤ countBound
 room-small l = omega arith
 
 -- and its work buffer
@@ -89,5 +92,5 @@ pub channel-in : (i : ℕ) {n : ℕ} → 4 * i + 4 ≤ n → (j : ℕ) → T (lt
 channel-in i l j h = omega (arith, lit< {m = j} {n = 4} h)
 
 -- a small number of slots
-pub small-fits : {room : ℕ} → room ≤ 2000000 → Fits w32 room
+pub small-fits : {room : ℕ} → room ≤ countBound → Fits w32 room
 small-fits l = omega arith

@@ -7,13 +7,16 @@ use Rattle.runner.specs.declared.KeyingAction.{KeyingAction}
 use Rattle.runner.specs.declared.KeyingAction.the-variants.{Keep, Discard}
 use Rattle.runner.specs.declared.RunnerConfig.{RunnerConfig}
 
+-- a rectangle
 abbrev pub rectOf : BoundingRect → rules.BoundingRect
 rectOf r = record { left = r .left; top = r .top; right = r .right; bottom = r .bottom }
 
+-- what is done with key pixels
 abbrev pub actionOf : KeyingAction → colors.KeyingAction
 actionOf Keep = colors.Keep
 actionOf Discard = colors.Discard
 
+-- the settings, field by field
 abbrev pub configOf : RunnerConfig → colors.RunnerConfig
 configOf o = record {
   isSameColorA = o .«is_same_color_a»;

@@ -2,6 +2,7 @@
 ghost use mathlib.Core.Path.{_≡_};
 ghost use Prim.Native.Nat.{_<_};
 ghost use Rattle.rules.specs.State.{isEmpty, mergeRect, pixelRect};
+ghost use Rattle.rules.specs.Code.Bounds.{countBound};
 ghost use Rattle.runner.specs.Types.{rectOf};
 
 pub(crate) struct BoundingRect {
@@ -17,7 +18,7 @@ fn min(x: u32, y: u32) -> u32
     if x < y { x } else { y }
 }
 
-fn max(x: u32, y: u32) -> u32
+pub(crate) fn max(x: u32, y: u32) -> u32
     ensures { λ r. ⌜ r ≡ Prim.Native.Nat.max x y ⌝ }
 {
     if x < y { y } else { x }
@@ -63,7 +64,7 @@ impl BoundingRect {
 
     // The rectangle with the pixel at column x, row y.
     pub(crate) fn add_x_y(self, x: u32, y: u32) -> Self
-        requires { ⌜ (x < 2000000) × (y < 2000000) ⌝ }
+        requires { ⌜ (x < countBound) × (y < countBound) ⌝ }
         ensures { λ r. ⌜ rectOf r ≡ mergeRect (rectOf self) (pixelRect x y) ⌝ }
     {
         self.merge(BoundingRect {

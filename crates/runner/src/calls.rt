@@ -6,11 +6,13 @@ ghost use lib.IntN.{pos};
 ghost use lib.ListN.{length};
 ghost use Rattle.rules.specs.Refusals.{badShift};
 ghost use Rattle.rules.specs.Run.{stage1, stage2};
+ghost use Rattle.rules.specs.Calls.{asBuffers, answered};
 ghost use Rattle.rules.specs.Calls as rules;
-ghost use Rattle.rules.proofs.Accepted.{Accepted};
+ghost use Rattle.rules.specs.Code.Bounds.{countBound};
+ghost use Rattle.rules.specs.Code.Accepted.{Accepted};
 ghost use Rattle.runner.specs.Types.{configOf};
-ghost use Rattle.runner.specs.Stage2.{CanStage2, Entered, Staged};
-ghost use Rattle.runner.specs.Calls.{Blanked, CanRun, CanFinish, Finished};
+ghost use Rattle.runner.specs.Code.Stage2.{CanStage2, Entered, Staged};
+ghost use Rattle.runner.specs.Code.Calls.{Blanked, CanRun, CanFinish, Finished};
 use super::outputs;
 use super::stage1;
 use super::stage2;
@@ -28,8 +30,9 @@ fn shift_of(shift: i32) -> u32
 
 // Labels and links of zeros, and no mark in the work buffer.
 fn blank(labels: &mut [u32], links: &mut [u32], work: &mut [u32], room: usize)
-    requires { ⌜ (length (now work) ≡ 8 * room) × (room ≤ 2000000) ⌝ }
-    ensures { λ _. ⌜ Blanked room (now (labels .entry)) (now (links .entry)) (now (work .entry)) (now (labels .exit)) (now (links .exit)) (now (work .exit)) ⌝ }
+    requires { ⌜ (length (now work) ≡ 8 * room) × (room ≤ countBound) ⌝ }
+    ensures { λ _. ⌜ Blanked room (now (labels .entry)) (now (links .entry)) (now (work .entry))
+        (now (labels .exit)) (now (links .exit)) (now (work .exit)) ⌝ }
 {
     outputs::clear(labels);
     outputs::clear(links);
@@ -48,7 +51,9 @@ fn label_image(
     h: u32,
 ) -> u32
     requires { ⌜ CanRun (configOf o) w h (now image) (now labels) (now links) (now table) (now work) ⌝ }
-    ensures { λ r. ⌜ Entered (configOf o) w h (now (image .entry)) (now (table .entry)) (now (labels .exit)) (now (links .exit)) (now (table .exit)) (now (work .exit)) r × CanStage2 w h (now (image .entry)) (now (work .exit)) ⌝ }
+    ensures { λ r. ⌜ Entered (configOf o) w h (now (image .entry)) (now (table .entry))
+        (now (labels .exit)) (now (links .exit)) (now (table .exit)) (now (work .exit)) r
+        × CanStage2 w h (now (image .entry)) (now (work .exit)) ⌝ }
 {
     let room = (w * h) as usize + 1;
     let shift = o.is_same_color_a;
@@ -79,16 +84,20 @@ fn both_stages(
     h: u32,
 ) -> Turns
     requires { ⌜ CanRun (configOf o) w h (now image) (now labels) (now links) (now table) (now work) ⌝ }
-    ensures { λ r. ⌜ Staged (w * h) (stage2 (configOf o) w h (stage1 (configOf o) w h (now (image .entry)))) (now (table .entry)) (now (labels .exit)) (now (links .exit)) (now (table .exit)) (now (work .exit)) (r .n) (r .m) ⌝ }
+    ensures { λ r. ⌜ Staged (w * h) (stage2 (configOf o) w h (stage1 (configOf o) w h (now (image .entry))))
+        (now (table .entry))
+        (now (labels .exit)) (now (links .exit)) (now (table .exit)) (now (work .exit)) (r .n) (r .m) ⌝ }
 {
     let n = label_image(image, labels, links, table, work, o, w, h);
     stage2::stage_2(image, labels, links, table, work, o, w, h, n)
 }
 
-// The outputs that still count something are copied from the last part of the work buffer, which is then cleared in its whole length; answers how many they are.
+// The outputs that still count something are copied from the last part of the work buffer, which is then cleared in its
+// whole length; answers how many they are.
 fn finish(table: &[u32], outputs: &mut [u32], work: &mut [u32], room: usize, m: u32) -> u32
     requires { ⌜ CanFinish room m (now table) (now outputs) (now work) ⌝ }
-    ensures { λ r. ⌜ Finished room m (now (table .entry)) (now (outputs .entry)) (now (work .entry)) (now (outputs .exit)) (now (work .exit)) r ⌝ }
+    ensures { λ r. ⌜ Finished room m (now (table .entry)) (now (outputs .entry)) (now (work .entry))
+        (now (outputs .exit)) (now (work .exit)) r ⌝ }
 {
     let kept = outputs::drop_empty(table, &work[6 * room..8 * room], outputs, m);
     outputs::clear(work);
@@ -107,8 +116,14 @@ pub(crate) fn accepted(
     outputs: &mut [u32],
     work: &mut [u32],
 ) -> Answer
-    requires { ⌜ Accepted (configOf o) w h (length (now image)) (length (now labels)) (length (now links)) (length (now table)) (length (now outputs)) (length (now work)) ⌝ }
-    ensures { λ r. ⌜ record { number = r .number; n = r .n; m = r .m; buffers = record { labels = now (labels .exit); links = now (links .exit); table = now (table .exit); outputs = now (outputs .exit); work = now (work .exit) } } ≡ rules.accepted (configOf o) w h (now (image .entry)) (record { labels = now (labels .entry); links = now (links .entry); table = now (table .entry); outputs = now (outputs .entry); work = now (work .entry) }) ⌝ }
+    requires { ⌜ Accepted (configOf o) w h (length (now image)) (length (now labels)) (length (now links))
+        (length (now table)) (length (now outputs)) (length (now work)) ⌝ }
+    ensures { λ r. ⌜ answered (r .number) (r .n) (r .m)
+        (asBuffers (now (labels .exit)) (now (links .exit)) (now (table .exit)) (now (outputs .exit))
+        (now (work .exit)))
+        ≡ rules.accepted (configOf o) w h (now (image .entry))
+        (asBuffers (now (labels .entry)) (now (links .entry)) (now (table .entry)) (now (outputs .entry))
+        (now (work .entry))) ⌝ }
 {
     let size = (w * h) as usize;
     let room = size + 1;

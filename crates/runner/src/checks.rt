@@ -1,9 +1,9 @@
 // Checks 1 and 5 of `run`.
 ghost use mathlib.Core.Path.{_≡_};
 ghost use mathlib.Core.Bool.{_||_};
-ghost use Prim.Native.Nat.{_+_, _*_, _≤_};
 ghost use lib.Dec.{ltb};
-ghost use Rattle.rules.specs.Refusals.{badShift, tableLength, outputsLength, workLength};
+ghost use Rattle.rules.specs.Refusals.{badShift, shortSheet, workLength};
+use image::layout;
 
 // Whether the shift is outside 0 to 7.
 pub(crate) fn bad_shift(shift: i32) -> bool
@@ -14,19 +14,17 @@ pub(crate) fn bad_shift(shift: i32) -> bool
 
 // Check 5 of `run`: whether a buffer is too short.
 pub(crate) fn short(
-    size: usize,
+    size: u32,
     labels: usize,
     links: usize,
     table: usize,
     outputs: usize,
     work: usize,
 ) -> bool
-    requires { ⌜ size ≤ 65000 ⌝ }
-    ensures { λ r. ⌜ r ≡ (ltb labels size || ltb links size || ltb table (tableLength size) || ltb outputs (outputsLength size) || ltb work (workLength size)) ⌝ }
+    ensures { λ r. ⌜ r
+        ≡ (ltb labels size || shortSheet size links table outputs || ltb work (workLength size)) ⌝ }
 {
-    (labels < size)
-        | (links < size)
-        | (table < 21 * (size + 1))
-        | (outputs < 2 * size)
-        | (work < 8 * size + 8)
+    (labels < size as usize)
+        | layout::short(size, links, table, outputs)
+        | (work < 8 * size as usize + 8)
 }

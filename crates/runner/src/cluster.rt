@@ -1,7 +1,7 @@
 // The neighbours of a cluster, after cluster.rs.
 use color::Color;
 use color::ColorOrNone;
-use color::ColorSum;
+use image::layout;
 ghost use mathlib.Core.Path.{_≡_};
 ghost use mathlib.Core.Logic.{_≢_};
 ghost use mathlib.Core.Bool.{true};
@@ -11,9 +11,11 @@ ghost use lib.ListN.{length, getD};
 ghost use Rattle.rules.specs.Color.{average};
 ghost use Rattle.rules.specs.Grid.{sides};
 ghost use Rattle.rules.specs.Grid as grid;
+ghost use Rattle.rules.specs.Code.Bounds.{countBound};
 ghost use Rattle.color.specs.Colors.{colorOf};
-ghost use Rattle.runner.specs.Slots.{sumAt};
-ghost use Rattle.runner.specs.Neighbours.{placeLabel, diffFrom, added, Scan, noted, notedFour, Averaged, Notable, Scannable, Found};
+ghost use Rattle.runner.specs.Code.Slots.{sumAt};
+ghost use Rattle.runner.specs.Code.Neighbours.{placeLabel, diffFrom, withNeighbour, Scan, noted, notedFour};
+ghost use Rattle.runner.specs.Code.Neighbours.{Averaged, Notable, Scannable, Found};
 
 // The label of the pixel above p, 0 where there is none; so down, left and right.
 fn up(labels: &[u32], w: u32, p: u32) -> u32
@@ -24,7 +26,7 @@ fn up(labels: &[u32], w: u32, p: u32) -> u32
 }
 
 fn down(labels: &[u32], w: u32, h: u32, p: u32) -> u32
-    requires { ⌜ (p < w * h) × (w * h ≤ length (now labels)) × (w * h ≤ 2000000) ⌝ }
+    requires { ⌜ (p < w * h) × (w * h ≤ length (now labels)) × (w * h ≤ countBound) ⌝ }
     ensures { λ r. ⌜ r ≡ placeLabel (now (labels .entry)) (grid.down w h p) ⌝ }
 {
     if p + w < w * h {
@@ -46,7 +48,7 @@ fn left(labels: &[u32], w: u32, p: u32) -> u32
 }
 
 fn right(labels: &[u32], w: u32, h: u32, p: u32) -> u32
-    requires { ⌜ (0 < w) × (p < w * h) × (w * h ≤ length (now labels)) × (w * h ≤ 2000000) ⌝ }
+    requires { ⌜ (0 < w) × (p < w * h) × (w * h ≤ length (now labels)) × (w * h ≤ countBound) ⌝ }
     ensures { λ r. ⌜ r ≡ placeLabel (now (labels .entry)) (grid.right w p) ⌝ }
 {
     if p % w + 1 < w {
@@ -58,7 +60,7 @@ fn right(labels: &[u32], w: u32, h: u32, p: u32) -> u32
 
 // The labels up, down, left and right of pixel p, 0 where there is none.
 pub(crate) fn four_labels(labels: &[u32], w: u32, h: u32, p: u32) -> [u32; 4]
-    requires { ⌜ (0 < w) × (p < w * h) × (w * h ≤ length (now labels)) × (w * h ≤ 2000000) ⌝ }
+    requires { ⌜ (0 < w) × (p < w * h) × (w * h ≤ length (now labels)) × (w * h ≤ countBound) ⌝ }
     ensures { λ r. ⌜ r ≡ map (placeLabel (now (labels .entry))) (sides w h p) ⌝ }
 {
     let a = up(labels, w, p);
@@ -73,14 +75,7 @@ pub(crate) fn color(table: &[u32], k: u32) -> Color
     requires { ⌜ Averaged (now table) k ⌝ }
     ensures { λ r. ⌜ colorOf r ≡ average (sumAt (now (table .entry)) k) ⌝ }
 {
-    let b = 21 * (k as usize);
-    let s = ColorSum {
-        r: table[b + 6],
-        g: table[b + 7],
-        b: table[b + 8],
-        a: table[b + 9],
-        counter: table[b + 10],
-    };
+    let s = color::sum_in(table, layout::SLOT_WIDTH * (k as usize) + layout::SUM_R);
     let ColorOrNone::Some(c) = s.average() else {
         return Color {
             r: 0,
@@ -103,7 +98,7 @@ impl Nearest {
     // With one more neighbour, of number l and difference d.
     fn with(self, l: u32, d: u32) -> Nearest
         requires { ⌜ self .count < 4294967295 ⌝ }
-        ensures { λ r. ⌜ r ≡ added self l d ⌝ }
+        ensures { λ r. ⌜ r ≡ withNeighbour self l d ⌝ }
     {
         let n = self.count + 1;
         if (self.count == 0) | (d < self.diff) | ((d == self.diff) & (l < self.target)) {
@@ -133,7 +128,9 @@ fn note(
 ) -> Nearest
     requires { ⌜ (l ≢ 0 → Notable (now table) (length (now marks)) l) ⌝ }
     requires { ⌜ found .count < 4294967295 ⌝ }
-    ensures { λ r. ⌜ record { marks = now (marks .exit); nearest = r } ≡ noted (diffFrom (now (table .entry)) (colorOf mine)) own visit l (record { marks = now (marks .entry); nearest = found }) ⌝ }
+    ensures { λ r. ⌜ record { marks = now (marks .exit); nearest = r }
+        ≡ noted (diffFrom (now (table .entry)) (colorOf mine)) own visit l
+        (record { marks = now (marks .entry); nearest = found }) ⌝ }
 {
     if (l == 0) | (l == own) {
         return found;
@@ -157,7 +154,9 @@ fn note_four(
 ) -> Nearest
     requires { ⌜ ((i : ℕ) → i < 4 → getD four i 0 ≢ 0 → Notable (now table) (length (now marks)) (getD four i 0)) ⌝ }
     requires { ⌜ found .count + 4 ≤ 4294967295 ⌝ }
-    ensures { λ r. ⌜ record { marks = now (marks .exit); nearest = r } ≡ notedFour (diffFrom (now (table .entry)) (colorOf mine)) own visit four (record { marks = now (marks .entry); nearest = found }) ⌝ }
+    ensures { λ r. ⌜ record { marks = now (marks .exit); nearest = r }
+        ≡ notedFour (diffFrom (now (table .entry)) (colorOf mine)) own visit four
+        (record { marks = now (marks .entry); nearest = found }) ⌝ }
 {
     let a = note(table, marks, visit, own, mine, four[0], found);
     let b = note(table, marks, visit, own, mine, four[1], a);
@@ -165,11 +164,12 @@ fn note_four(
     note(table, marks, visit, own, mine, four[3], c)
 }
 
-// Whether the pixels before and after p, and those a row above and below it, are all of the cluster: then p has no neighbour to note, wherever
-// the image ends. It saves the division by w for most pixels.
+// Whether the pixels before and after p, and those a row above and below it, are all of the cluster: then p has no
+// neighbour to note, wherever the image ends. It saves the division by w for most pixels.
 fn is_inside(labels: &[u32], w: u32, own: u32, p: u32) -> bool
     requires { ⌜ (0 < w) × (p < length (now labels)) ⌝ }
-    ensures { λ r. ⌜ (r ≡ true → (h : ℕ) (key : ℕ → ℕ) (visit : ℕ) (s : Scan) → notedFour key own visit (map (placeLabel (now (labels .entry))) (sides w h p)) s ≡ s) ⌝ }
+    ensures { λ r. ⌜ (r ≡ true → (h : ℕ) (key : ℕ → ℕ) (visit : ℕ) (s : Scan)
+        → notedFour key own visit (map (placeLabel (now (labels .entry))) (sides w h p)) s ≡ s) ⌝ }
 {
     let i = p as usize;
     let row = w as usize;
@@ -195,10 +195,14 @@ fn look(
     p: u32,
     found: Nearest,
 ) -> Nearest
-    requires { ⌜ (0 < w) × (p < w * h) × (w * h ≤ length (now labels)) × (w * h ≤ 2000000) ⌝ }
-    requires { ⌜ ((i : ℕ) → i < 4 → getD (map (placeLabel (now labels)) (sides w h p)) i 0 ≢ 0 → Notable (now table) (length (now marks)) (getD (map (placeLabel (now labels)) (sides w h p)) i 0)) ⌝ }
+    requires { ⌜ (0 < w) × (p < w * h) × (w * h ≤ length (now labels)) × (w * h ≤ countBound) ⌝ }
+    requires { ⌜ ((i : ℕ) → i < 4 → getD (map (placeLabel (now labels)) (sides w h p)) i 0 ≢ 0
+        → Notable (now table) (length (now marks)) (getD (map (placeLabel (now labels)) (sides w h p)) i 0)) ⌝ }
     requires { ⌜ found .count + 4 ≤ 4294967295 ⌝ }
-    ensures { λ r. ⌜ record { marks = now (marks .exit); nearest = r } ≡ notedFour (diffFrom (now (table .entry)) (colorOf mine)) own visit (map (placeLabel (now (labels .entry))) (sides w h p)) (record { marks = now (marks .entry); nearest = found }) ⌝ }
+    ensures { λ r. ⌜ record { marks = now (marks .exit); nearest = r }
+        ≡ notedFour (diffFrom (now (table .entry)) (colorOf mine)) own visit
+        (map (placeLabel (now (labels .entry))) (sides w h p)) (record { marks = now (marks .entry); nearest = found })
+        ⌝ }
 {
     if is_inside(labels, w, own, p) {
         return found;
@@ -219,12 +223,13 @@ pub(crate) fn neighbours(
     visit: u32,
 ) -> Nearest
     requires { ⌜ Scannable (now labels) (now links) (now table) (now marks) w h k visit ⌝ }
-    ensures { λ r. ⌜ Found (now (labels .entry)) (now (links .entry)) (now (table .entry)) w h k visit r (now (marks .exit)) ⌝ }
+    ensures { λ r. ⌜ Found (now (labels .entry)) (now (links .entry)) (now (table .entry)) w h k visit r
+        (now (marks .exit)) ⌝ }
 {
-    let b = 21 * (k as usize);
+    let b = layout::SLOT_WIDTH * (k as usize);
     let mine = color(table, k);
-    let mut at = table[b + 0];
-    let mut left = table[b + 1];
+    let mut at = table[b + layout::FIRST_PIXEL];
+    let mut left = table[b + layout::PIXEL_COUNT];
     let mut found = Nearest {
         count: 0,
         target: 0,

@@ -1,5 +1,6 @@
-// The boundary test of a cluster, after geometry.rs. With a smallest area of 1 or more the boundary is smaller than the area exactly if some
-// pixel of the list has its four neighbours in the list, so nothing is counted and the scan stops at the first such pixel.
+// The boundary test of a cluster, after geometry.rs. With a smallest area of 1 or more the boundary is smaller than the
+// area exactly if some pixel of the list has its four neighbours in the list, so nothing is counted and the scan stops
+// at the first such pixel.
 ghost use mathlib.Core.Path.{_≡_};
 ghost use Prim.Native.Nat.{_*_, _≤_, _<_};
 ghost use lib.Dec.{T};
@@ -8,8 +9,9 @@ ghost use Rattle.rules.specs.Grid.{sides};
 ghost use Rattle.rules.specs.Layout.{walk};
 ghost use Rattle.rules.specs.Paint.{reads};
 ghost use Rattle.rules.specs.Stage2.{allIn};
+ghost use Rattle.rules.specs.Code.Bounds.{countBound};
 ghost use Rattle.runner.specs.Types.{configOf};
-ghost use Rattle.runner.specs.Interior.{inList, someInside};
+ghost use Rattle.runner.specs.Code.Interior.{inList, someInside};
 use super::keying;
 use crate::RunnerConfig;
 
@@ -26,7 +28,8 @@ fn in_list(image: &[u8], labels: &[u32], o: RunnerConfig, k: u32, q: u32) -> boo
 
 // Whether pixel p has its four neighbours in the list of cluster k.
 fn surrounded(image: &[u8], labels: &[u32], o: RunnerConfig, w: u32, h: u32, k: u32, p: u32) -> bool
-    requires { ⌜ (p < w * h) × (w * h ≡ length (now labels)) × (4 * length (now labels) ≤ length (now image)) × (w * h ≤ 2000000) × (0 < w) ⌝ }
+    requires { ⌜ (p < w * h) × (w * h ≡ length (now labels)) × (4 * length (now labels) ≤ length (now image))
+        × (w * h ≤ countBound) × (0 < w) ⌝ }
     ensures { λ r. ⌜ r ≡ allIn (inList (configOf o) (now (image .entry)) (now (labels .entry)) k) (sides w h p) ⌝ }
 {
     if p < w {
@@ -61,9 +64,12 @@ pub(crate) fn has_interior(
     first: u32,
     count: u32,
 ) -> bool
-    requires { ⌜ (w * h ≡ length (now labels)) × (w * h ≤ length (now links)) × (4 * length (now labels) ≤ length (now image)) × (w * h ≤ 2000000) × (0 < w) ⌝ }
+    requires { ⌜ (w * h ≡ length (now labels)) × (w * h ≤ length (now links))
+        × (4 * length (now labels) ≤ length (now image)) × (w * h ≤ countBound) × (0 < w) ⌝ }
     requires { ⌜ T (reads (w * h) (now links) first count) ⌝ }
-    ensures { λ r. ⌜ r ≡ someInside (configOf o) (now (image .entry)) (now (labels .entry)) w h k (walk (λ p. getD (now (links .entry)) p 0) first count) ⌝ }
+    ensures { λ r. ⌜ r
+        ≡ someInside (configOf o)
+        (now (image .entry)) (now (labels .entry)) w h k (walk (λ p. getD (now (links .entry)) p 0) first count) ⌝ }
 {
     let mut at = first;
     let mut left = count;

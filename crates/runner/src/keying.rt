@@ -1,9 +1,10 @@
 // What the settings say of a pixel, after runner.rs and builder.rs.
 ghost use mathlib.Core.Path.{_≡_};
 ghost use mathlib.Core.Bool.{_&&_};
-ghost use Prim.Native.Nat.{_+_, _*_, _≤_};
+ghost use mathlib.Core.List.{List};
+ghost use Prim.Native.Nat.{ℕ, _+_, _*_, _≤_};
 ghost use lib.ListN.{length};
-ghost use Rattle.rules.specs.Color.{pixel, keyingOn, isDiscard, discards};
+ghost use Rattle.rules.specs.Color.{pixel, keyingOn, isDiscard};
 ghost use Rattle.rules.specs.Stage1.{isKey};
 ghost use Rattle.color.specs.Colors.{colorOf};
 ghost use Rattle.runner.specs.Types.{actionOf, configOf};
@@ -52,13 +53,20 @@ pub(crate) fn is_discard(o: RunnerConfig) -> bool
     }
 }
 
-// Whether pixel i has the key colour, with keying on.
+// Whether a pixel of colour c is a key pixel: it has the key colour, with keying on.
+pub(crate) fn is_key_color(o: RunnerConfig, c: Color) -> bool
+    ensures { λ r. ⌜ ((image : List ℕ) (i : ℕ) → colorOf c ≡ pixel image i → r ≡ isKey (configOf o) image i) ⌝ }
+{
+    let key = o.key_color;
+    keying_on(o) & color::equal(c, key)
+}
+
+// Whether pixel i is a key pixel.
 pub(crate) fn is_key(image: &[u8], o: RunnerConfig, i: u32) -> bool
     requires { ⌜ 4 * i + 4 ≤ length (now image) ⌝ }
     ensures { λ r. ⌜ r ≡ isKey (configOf o) (now (image .entry)) i ⌝ }
 {
-    let key = o.key_color;
-    keying_on(o) & color::equal(color_at(image, i), key)
+    is_key_color(o, color_at(image, i))
 }
 
 // Whether pixel i is discarded.

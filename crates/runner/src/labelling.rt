@@ -5,12 +5,13 @@ ghost use Prim.Native.Nat.{ℕ, _+_, _≤_, _<_};
 ghost use lib.ListN.{length, getD};
 ghost use Rattle.rules.specs.State as rules;
 ghost use Rattle.rules.specs.Layout.{walk};
-ghost use Rattle.rules.specs.Spans.{setFrom, Consecutive};
-ghost use Rattle.runner.specs.Labelling.{CanRelabel, Relabels};
+ghost use Rattle.rules.specs.Code.Spans.{setFrom, Consecutive};
+ghost use Rattle.rules.specs.Code.Bounds.{countBound};
+ghost use Rattle.runner.specs.Code.Labelling.{CanRelabel, Relabels};
 
 // n labels from i on become k.
 pub(crate) fn fill(labels: &mut [u32], i: u32, n: u32, k: u32)
-    requires { ⌜ (i + n ≤ length (now labels)) × (i + n < 2000000) ⌝ }
+    requires { ⌜ (i + n ≤ length (now labels)) × (i + n < countBound) ⌝ }
     ensures { λ _. ⌜ now (labels .exit) ≡ setFrom (now (labels .entry)) i n k ⌝ }
 {
     let mut j = 0;
@@ -50,8 +51,8 @@ fn relabel_stretch(labels: &mut [u32], links: &[u32], at: u32, left: u32, t: u32
     ensures { λ r. ⌜ (r .left < left)
         × Relabels t (now (labels .entry)) (now (links .entry)) at left (now (labels .exit)) (r .at) (r .left) ⌝ }
 {
-    let next = links[(at - 1) as usize];
-    if next == at + 1 {
+    let after = links[(at - 1) as usize];
+    if after == at + 1 {
         let n = stretch(links, at, left);
         fill(labels, at - 1, n + 1, t);
         return Rest {
@@ -61,7 +62,7 @@ fn relabel_stretch(labels: &mut [u32], links: &[u32], at: u32, left: u32, t: u32
     }
     labels[(at - 1) as usize] = t;
     Rest {
-        at: next,
+        at: after,
         left: left - 1,
     }
 }

@@ -16,7 +16,7 @@ mod stage2;
 
 ghost use mathlib.Core.Path.{_≡_};
 ghost use Rattle.rules.specs.Refusals.{runAnswer};
-ghost use Rattle.rules.specs.Calls.{runCall};
+ghost use Rattle.rules.specs.Calls.{asBuffers, answered, runCall};
 ghost use Rattle.runner.specs.Types.{configOf};
 use color::Color;
 
@@ -25,6 +25,9 @@ pub enum KeyingAction {
     Keep,
     Discard,
 }
+
+// `hierarchical` of a run that deepens.
+pub const HIERARCHICAL_MAX: u32 = 4294967295;
 
 // The settings, with the Rust's names. The shift is `is_same_color_a`; the key (0,0,0,0) turns keying off.
 pub struct RunnerConfig {
@@ -47,7 +50,8 @@ pub struct Answer {
     pub m: u32,
 }
 
-// The number that `run` answers with these settings and sizes; image, labels, links, table, outputs and work are lengths.
+// The number that `run` answers with these settings and sizes; image, labels, links, table, outputs and work are
+// lengths.
 pub fn run_answer(
     o: RunnerConfig,
     w: u32,
@@ -68,8 +72,8 @@ pub fn run_answer(
     if answer != 0 {
         return answer;
     }
-    let size = image::area(w, h) as usize;
-    if image != 4 * size {
+    let size = image::area(w, h) as u32;
+    if image != 4 * size as usize {
         return 4;
     }
     if checks::short(size, labels, links, table, outputs, work) {
@@ -78,7 +82,8 @@ pub fn run_answer(
     0
 }
 
-// Clusters the w × h pixels of the image into labels, links, table and outputs. A number other than 0 refuses the call, which changes nothing.
+// Clusters the w × h pixels of the image into labels, links, table and outputs. A number other than 0 refuses the call,
+// which changes nothing.
 pub fn run(
     o: RunnerConfig,
     w: u32,
@@ -90,7 +95,12 @@ pub fn run(
     outputs: &mut [u32],
     work: &mut [u32],
 ) -> Answer
-    ensures { λ r. ⌜ record { number = r .number; n = r .n; m = r .m; buffers = record { labels = now (labels .exit); links = now (links .exit); table = now (table .exit); outputs = now (outputs .exit); work = now (work .exit) } } ≡ runCall (configOf o) w h (now (image .entry)) (record { labels = now (labels .entry); links = now (links .entry); table = now (table .entry); outputs = now (outputs .entry); work = now (work .entry) }) ⌝ }
+    ensures { λ r. ⌜ answered (r .number) (r .n) (r .m)
+        (asBuffers (now (labels .exit)) (now (links .exit)) (now (table .exit)) (now (outputs .exit))
+        (now (work .exit)))
+        ≡ runCall (configOf o) w h (now (image .entry))
+        (asBuffers (now (labels .entry)) (now (links .entry)) (now (table .entry)) (now (outputs .entry))
+        (now (work .entry))) ⌝ }
 {
     let number = run_answer(
         o,

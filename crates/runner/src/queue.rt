@@ -1,12 +1,14 @@
 // The queue of pending slots, a tournament tree over their pixel counts.
 //
-// It lies in a part of the work buffer, three numbers for each of `room` slots: the keys of the slots, then for each node of the tree the
-// key and the slot that it holds, side by side. A slot that is not pending has the key NONE. Leaf k stands at position n + k of the tree,
-// the children of position x at 2x and 2x + 1, and the root at 1.
+// It lies in a part of the work buffer, three numbers for each of `room` slots: the keys of the slots, then for each
+// node of the tree the key and the slot that it holds, side by side. A slot that is not pending has the key NONE. Leaf
+// k stands at position n + k of the tree, the children of position x at 2x and 2x + 1, and the root at 1.
 ghost use mathlib.Core.Path.{_≡_};
-ghost use Prim.Native.Nat.{_+_, _*_, _/_, _≤_, _<_};
+ghost use Prim.Native.Nat.{_+_, _*_, _/_, _<_};
 ghost use lib.ListN.{length};
-ghost use Rattle.runner.specs.Queue.{Sized, entryAt, rankOf, firstOf, holding, besideOf, Tree, Refreshed, Built, KeySet, First};
+ghost use Rattle.rules.specs.Code.Bounds.{sumBound};
+ghost use Rattle.runner.specs.Code.Queue.{Sized, entryAt, orderOf, firstEntry, withNode, besideOf, Tree};
+ghost use Rattle.runner.specs.Code.Queue.{Refreshed, Built, KeySet, First};
 
 // The key of a slot that is not pending.
 pub(crate) const NONE: u32 = 4294967295;
@@ -37,22 +39,23 @@ fn at(queue: &[u32], n: usize, room: usize, x: usize) -> Entry
 }
 
 // A number for an entry, in the order of keys and then of slots.
-fn rank(e: Entry) -> u64
-    ensures { λ r. ⌜ r ≡ rankOf e ⌝ }
+fn order_of(e: Entry) -> u64
+    ensures { λ r. ⌜ r ≡ orderOf e ⌝ }
 {
     4294967296 * e.key as u64 + e.slot as u64
 }
 
-// The smaller key, of equal keys the smaller slot. One comparison, since which of two entries comes first is hard to foretell.
-fn first_of(a: Entry, b: Entry) -> Entry
-    ensures { λ r. ⌜ r ≡ firstOf a b ⌝ }
+// The smaller key, of equal keys the smaller slot. One comparison, since which of two entries comes first is hard to
+// foretell.
+fn first_entry(a: Entry, b: Entry) -> Entry
+    ensures { λ r. ⌜ r ≡ firstEntry a b ⌝ }
 {
-    if rank(a) < rank(b) { a } else { b }
+    if order_of(a) < order_of(b) { a } else { b }
 }
 
 // The position that has the same node above it as x.
 fn beside(x: usize) -> usize
-    requires { ⌜ (1 < x) × (x < 4000000) ⌝ }
+    requires { ⌜ (1 < x) × (x < sumBound) ⌝ }
     ensures { λ r. ⌜ r ≡ besideOf x ⌝ }
 {
     if x % 2 == 0 { x + 1 } else { x - 1 }
@@ -62,7 +65,7 @@ fn beside(x: usize) -> usize
 fn hold(queue: &mut [u32], n: usize, room: usize, j: usize, e: Entry)
     requires { ⌜ Sized n room (length (now queue)) ⌝ }
     requires { ⌜ j < n ⌝ }
-    ensures { λ _. ⌜ now (queue .exit) ≡ holding (now (queue .entry)) room j e ⌝ }
+    ensures { λ _. ⌜ now (queue .exit) ≡ withNode (now (queue .entry)) room j e ⌝ }
 {
     let p = room + 2 * j;
     queue[p] = e.key;
@@ -79,7 +82,7 @@ pub(crate) fn build(queue: &mut [u32], n: usize, room: usize)
         j = j - 1;
         let a = at(queue, n, room, 2 * j);
         let b = at(queue, n, room, 2 * j + 1);
-        hold(queue, n, room, j, first_of(a, b));
+        hold(queue, n, room, j, first_entry(a, b));
     }
 }
 
@@ -89,14 +92,15 @@ pub(crate) struct Taken {
     pub(crate) changed: bool,
 }
 
-// The node above position x, where e stands, takes the first of its children. Where that does not change it, no node above it changes either.
+// The node above position x, where e stands, takes the first of its children. Where that does not change it, no node
+// above it changes either.
 fn refresh(queue: &mut [u32], n: usize, room: usize, x: usize, e: Entry) -> Taken
     requires { ⌜ Sized n room (length (now queue)) ⌝ }
     requires { ⌜ (1 < x) × (x < 2 * n) ⌝ }
     requires { ⌜ e ≡ entryAt (now queue) n room x ⌝ }
     ensures { λ r. ⌜ Refreshed (now (queue .entry)) (now (queue .exit)) n room (x / 2) r ⌝ }
 {
-    let first = first_of(e, at(queue, n, room, beside(x)));
+    let first = first_entry(e, at(queue, n, room, beside(x)));
     let old = at(queue, n, room, x / 2);
     if (old.key == first.key) & (old.slot == first.slot) {
         return Taken {

@@ -6,10 +6,13 @@ ghost use lib.IntN.{pos};
 ghost use lib.ListN.{length, getD};
 ghost use Rattle.rules.specs.Base.{apart};
 ghost use Rattle.rules.specs.Stage1.{isKey};
-ghost use Rattle.rules.specs.Spans.{sumFrom, Extends, AllExtend};
+ghost use Rattle.rules.specs.Code.Spans.{sumFrom, Extends, AllExtend};
+ghost use Rattle.rules.specs.Refusals.{limit};
+ghost use Rattle.rules.specs.Code.Bounds.{countBound};
 ghost use Rattle.color.specs.Colors.{sumOf};
 ghost use Rattle.runner.specs.Types.{configOf};
-ghost use Rattle.runner.specs.Spans.{linkedFrom, CanAddSpan, AddedSpan, RowRest, FoundSpan, LimitsOf, Fitting, ManyNear};
+ghost use Rattle.runner.specs.Code.Spans.{linkedFrom, CanAddSpan, AddedSpan, RowRest, FoundSpan, LimitsOf};
+ghost use Rattle.runner.specs.Code.Spans.{Fitting, ManyNear};
 use super::bound::BoundingRect;
 use super::builder;
 use super::keying;
@@ -23,7 +26,7 @@ use color::ColorSum;
 
 // Each of n pixels from i on is linked to the one after it.
 fn chain_links(links: &mut [u32], i: u32, n: u32)
-    requires { ⌜ (i + n ≤ length (now links)) × (i + n < 2000000) ⌝ }
+    requires { ⌜ (i + n ≤ length (now links)) × (i + n < countBound) ⌝ }
     ensures { λ _. ⌜ now (links .exit) ≡ linkedFrom (now (links .entry)) i n ⌝ }
 {
     let mut j = 0;
@@ -35,13 +38,13 @@ fn chain_links(links: &mut [u32], i: u32, n: u32)
 
 // The colours of n pixels from i on, summed.
 fn sum_colors(image: &[u8], i: u32, n: u32) -> ColorSum
-    requires { ⌜ (4 * (i + n) ≤ length (now image)) × (i + n < 2000000) ⌝ }
+    requires { ⌜ (4 * (i + n) ≤ length (now image)) × (i + n < countBound) ⌝ }
     ensures { λ r. ⌜ sumOf r ≡ sumFrom (now (image .entry)) i n ⌝ }
 {
-    let mut s = slot::no_sum();
+    let mut s = color::no_sum();
     let mut j = 0;
     while j < n {
-        s = slot::plus(s, slot::one(keying::color_at(image, i + j)));
+        s = color::sum_with(s, keying::color_at(image, i + j));
         j += 1;
     }
     s
@@ -170,7 +173,7 @@ fn four_in_cluster(labels: &[u32], i: u32, k: u32) -> bool
 
 // Whether none of the four pixels from i on is a key pixel.
 fn four_free(image: &[u8], o: RunnerConfig, i: u32) -> bool
-    requires { ⌜ (4 * i + 16 ≤ length (now image)) × (i < 2000000) ⌝ }
+    requires { ⌜ (4 * i + 16 ≤ length (now image)) × (i < countBound) ⌝ }
     ensures { λ r. ⌜ (r ≡ true → (j : ℕ) → j < 4
         → isKey (configOf o) (now (image .entry)) (i + j) ≡ false) ⌝ }
 {
@@ -192,7 +195,7 @@ fn four_extend(
     k: u32,
 ) -> bool
     requires { ⌜ (w + 1 ≤ i) × (i + 4 ≤ length (now labels)) × (4 * i + 16 ≤ length (now image)) ⌝ }
-    requires { ⌜ (i < 2000000) × (shift < 8) ⌝ }
+    requires { ⌜ (i < countBound) × (shift < 8) ⌝ }
     ensures { λ r. ⌜ (r ≡ true → Fitting (configOf o) shift (now (limits .entry))
         → AllExtend (configOf o) w (now (image .entry)) (now (labels .entry)) k i 4) ⌝ }
 {
@@ -218,7 +221,7 @@ fn fours(
     room: u32,
 ) -> u32
     requires { ⌜ (w + 1 ≤ i) × (i + room ≤ length (now labels)) × (4 * (i + room) ≤ length (now image)) ⌝ }
-    requires { ⌜ (i + room < 2000000) × (shift < 8) ⌝ }
+    requires { ⌜ (i + room < countBound) × (shift < 8) ⌝ }
     ensures { λ r. ⌜ (r ≤ room) × (Fitting (configOf o) shift (now (limits .entry))
         → AllExtend (configOf o) w (now (image .entry)) (now (labels .entry)) k i r) ⌝ }
 {

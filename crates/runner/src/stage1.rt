@@ -9,24 +9,38 @@ ghost use lib.IntN.{pos};
 ghost use lib.ListN.{length};
 ghost use Rattle.rules.specs.Base.{if_then_else_};
 ghost use Rattle.rules.specs.Grid as grid;
-ghost use Rattle.rules.specs.Color.{RunnerConfig as Config};
+ghost use Rattle.rules.specs.Color.{RunnerConfig as Config, pixel};
 ghost use Rattle.rules.specs.State.{State};
 ghost use Rattle.rules.specs.Stage1 as rules;
 ghost use Rattle.rules.specs.Run as run;
-ghost use Rattle.color.specs.Colors.{optionOf};
+ghost use Rattle.rules.specs.Layout.{InTable};
+ghost use Rattle.rules.specs.Code.Bounds.{countBound};
+ghost use Rattle.color.specs.Colors.{colorOf, optionOf};
 ghost use Rattle.runner.specs.Types.{configOf};
-ghost use Rattle.runner.specs.Spans.{LimitsOf};
-ghost use Rattle.runner.specs.Stage1.{Given, At, Holding, meets, joined, aimed, isNowhere, Opened, Placing, Meeting, Sided, Taking, Blank};
+ghost use Rattle.runner.specs.Code.Spans.{LimitsOf};
+ghost use Rattle.runner.specs.Code.Stage1.{Given, Spot, SeenAt, Holding, meets, joined, goesInto, isNowhere};
+ghost use Rattle.runner.specs.Code.Stage1.{Opened};
+ghost use Rattle.runner.specs.Code.Stage1.{Placing, Meeting, Sided, Taking, Blank};
 use super::builder;
 use super::keying;
 use super::slot;
 use super::spans;
 use crate::RunnerConfig;
+use color::Color;
 use color::ColorOrNone;
+
+// What a pixel is compared with: its own colour, and the pixels to the left of it, above it, and to the left of that
+// one; none off the image. Each is read once.
+struct Seen {
+    own: Color,
+    left: ColorOrNone,
+    up: ColorOrNone,
+    up_left: ColorOrNone,
+}
 
 // The next free number, and the number of slots.
 pub(crate) struct Slots {
-    pub(crate) next: u32,
+    pub(crate) next_index: u32,
     pub(crate) count: u32,
 }
 
@@ -34,7 +48,7 @@ pub(crate) struct Slots {
 struct Sides {
     left: u32,
     up: u32,
-    next: u32,
+    next_index: u32,
     count: u32,
 }
 
@@ -50,72 +64,80 @@ enum Into {
 // The slot that it goes to, and then next and count.
 struct Target {
     slot: u32,
-    next: u32,
+    next_index: u32,
     count: u32,
 }
 
-// The pixel to the left of pixel i, which is in column x; none at the border.
-fn left_of(image: &[u8], i: u32, x: u32) -> ColorOrNone
-    requires { ⌜ (4 * i + 4 ≤ length (now image)) × (x ≤ i) ⌝ }
-    ensures { λ r. ⌜ ((w : ℕ) → x ≡ i % w → optionOf r ≡ rules.colorAt (now (image .entry)) (grid.left w i)) ⌝ }
+// The pixel to the left of column x, row y; none at the border.
+fn left_of(image: &[u8], w: u32, h: u32, x: u32, y: u32) -> ColorOrNone
+    ensures { λ r. ⌜ ((i : ℕ) → Spot w h i x y → length (now (image .entry)) ≡ 4 * (w * h)
+        → optionOf r ≡ rules.colorAt (now (image .entry)) (grid.left w i)) ⌝ }
 {
     if x == 0 {
         return ColorOrNone::None;
     }
-    ColorOrNone::Some(keying::color_at(image, i - 1))
+    color::pixel_at(image, w, h, x - 1, y)
 }
 
 // The pixel above.
-fn up_of(image: &[u8], w: u32, i: u32, x: u32, y: u32) -> ColorOrNone
-    requires { ⌜ At w i x y (length (now image)) ⌝ }
-    ensures { λ r. ⌜ optionOf r ≡ rules.colorAt (now (image .entry)) (grid.up w i) ⌝ }
+fn up_of(image: &[u8], w: u32, h: u32, x: u32, y: u32) -> ColorOrNone
+    ensures { λ r. ⌜ ((i : ℕ) → Spot w h i x y → length (now (image .entry)) ≡ 4 * (w * h)
+        → optionOf r ≡ rules.colorAt (now (image .entry)) (grid.up w i)) ⌝ }
 {
     if y == 0 {
         return ColorOrNone::None;
     }
-    ColorOrNone::Some(keying::color_at(image, i - w))
+    color::pixel_at(image, w, h, x, y - 1)
 }
 
 // The pixel to the left of the one above.
-fn up_left_of(image: &[u8], w: u32, i: u32, x: u32, y: u32) -> ColorOrNone
-    requires { ⌜ At w i x y (length (now image)) ⌝ }
-    ensures { λ r. ⌜ optionOf r ≡ rules.colorAt (now (image .entry)) (grid.upLeft w i) ⌝ }
+fn up_left_of(image: &[u8], w: u32, h: u32, x: u32, y: u32) -> ColorOrNone
+    ensures { λ r. ⌜ ((i : ℕ) → Spot w h i x y → length (now (image .entry)) ≡ 4 * (w * h)
+        → optionOf r ≡ rules.colorAt (now (image .entry)) (grid.upLeft w i)) ⌝ }
 {
     if y == 0 {
         return ColorOrNone::None;
     }
-    left_of(image, i - w, x)
+    left_of(image, w, h, x, y - 1)
+}
+
+// What is seen from column x, row y, where the colour is c.
+fn seen_from(image: &[u8], w: u32, h: u32, x: u32, y: u32, c: Color) -> Seen
+    ensures { λ r. ⌜ ((i : ℕ) → Spot w h i x y → length (now (image .entry)) ≡ 4 * (w * h)
+        → colorOf c ≡ pixel (now (image .entry)) i → SeenAt w (now (image .entry)) i r) ⌝ }
+{
+    let left = left_of(image, w, h, x, y);
+    let up = up_of(image, w, h, x, y);
+    let up_left = up_left_of(image, w, h, x, y);
+    Seen {
+        own: c,
+        left: left,
+        up: up,
+        up_left: up_left,
+    }
 }
 
 // Whether two pixels are like under the settings, whose shift is given as a number.
 pub(crate) fn is_same(o: RunnerConfig, shift: u32, a: ColorOrNone, b: ColorOrNone) -> bool
-    ensures { λ r. ⌜ ((image : List ℕ) (p q : Option ℕ) → configOf o .isSameColorA ≡ pos shift → optionOf a ≡ rules.colorAt image p → optionOf b ≡ rules.colorAt image q → r ≡ rules.sameAt (configOf o) image p q) ⌝ }
+    ensures { λ r. ⌜ ((image : List ℕ) (p q : Option ℕ) → configOf o .isSameColorA ≡ pos shift → optionOf a
+        ≡ rules.colorAt image p → optionOf b ≡ rules.colorAt image q → r ≡ rules.sameAt (configOf o) image p q) ⌝ }
 {
     let thres = o.is_same_color_b;
     color::is_same(a, b, shift, thres)
 }
 
 // Step 1, the condition, with l and u for the labels of left and up.
-fn left_meets_up(
-    image: &[u8],
-    o: RunnerConfig,
-    shift: u32,
-    w: u32,
-    l: u32,
-    u: u32,
-    i: u32,
-    x: u32,
-    y: u32,
-) -> bool
-    requires { ⌜ At w i x y (length (now image)) ⌝ }
-    ensures { λ r. ⌜ (configOf o .isSameColorA ≡ pos shift → r ≡ meets (configOf o) w (now (image .entry)) i l u) ⌝ }
+fn left_meets_up(o: RunnerConfig, shift: u32, l: u32, u: u32, p: Seen) -> bool
+    ensures { λ r. ⌜ ((w i : ℕ) (image : List ℕ) → configOf o .isSameColorA ≡ pos shift → SeenAt w image i p
+        → r ≡ meets (configOf o) w image i l u) ⌝ }
 {
     if l == u {
         return false;
     }
-    let c = ColorOrNone::Some(keying::color_at(image, i));
-    let left = left_of(image, i, x);
-    let up = up_of(image, w, i, x, y);
+    let own = p.own;
+    let c = ColorOrNone::Some(own);
+    let left = p.left;
+    let up = p.up;
     if is_same(o, shift, left, up) {
         if is_same(o, shift, c, left) {
             return is_same(o, shift, c, up);
@@ -125,34 +147,39 @@ fn left_meets_up(
 }
 
 // Steps 3 to 5: which cluster the pixel joins.
-fn joins(image: &[u8], o: RunnerConfig, shift: u32, w: u32, i: u32, x: u32, y: u32) -> Into
-    requires { ⌜ At w i x y (length (now image)) ⌝ }
-    ensures { λ r. ⌜ (configOf o .isSameColorA ≡ pos shift → r ≡ joined (configOf o) w (now (image .entry)) i) ⌝ }
+fn joins(o: RunnerConfig, shift: u32, p: Seen) -> Into
+    ensures { λ r. ⌜ ((w i : ℕ) (image : List ℕ) → configOf o .isSameColorA ≡ pos shift → SeenAt w image i p
+        → r ≡ joined (configOf o) w image i) ⌝ }
 {
-    let c = ColorOrNone::Some(keying::color_at(image, i));
-    if is_same(o, shift, c, up_left_of(image, w, i, x, y)) {
-        if is_same(o, shift, c, up_of(image, w, i, x, y)) {
+    let own = p.own;
+    let c = ColorOrNone::Some(own);
+    let up_left = p.up_left;
+    let up = p.up;
+    let left = p.left;
+    if is_same(o, shift, c, up_left) {
+        if is_same(o, shift, c, up) {
             return Into::Up;
         }
-        if is_same(o, shift, c, left_of(image, i, x)) {
+        if is_same(o, shift, c, left) {
             return Into::Left;
         }
     }
     Into::Fresh
 }
 
-// Steps 2 to 5: where pixel i goes.
-fn aims(image: &[u8], o: RunnerConfig, shift: u32, w: u32, i: u32, x: u32, y: u32) -> Into
-    requires { ⌜ At w i x y (length (now image)) ⌝ }
-    ensures { λ r. ⌜ (configOf o .isSameColorA ≡ pos shift → r ≡ aimed (configOf o) w (now (image .entry)) i) ⌝ }
+// Steps 2 to 5: where the pixel goes.
+fn goes_into(o: RunnerConfig, shift: u32, p: Seen) -> Into
+    ensures { λ r. ⌜ ((w i : ℕ) (image : List ℕ) → configOf o .isSameColorA ≡ pos shift → SeenAt w image i p
+        → r ≡ goesInto (configOf o) w image i) ⌝ }
 {
-    if keying::is_key(image, o, i) {
+    let own = p.own;
+    if keying::is_key_color(o, own) {
         if keying::is_discard(o) {
             return Into::Nowhere;
         }
         return Into::Zero;
     }
-    joins(image, o, shift, w, i, x, y)
+    joins(o, shift, p)
 }
 
 fn is_nowhere(to: Into) -> bool
@@ -169,56 +196,58 @@ fn is_nowhere(to: Into) -> bool
 
 // Slot next is taken: next rises by one, and so does the number of slots where the slot is new.
 fn slot_taken(s: Slots) -> Slots
-    requires { ⌜ s .next < 2000000 ⌝ }
-    ensures { λ r. ⌜ (r .next ≡ s .next + 1) × (r .count ≡ (if ltb (s .next) (s .count) then s .count else s .next + 1)) ⌝ }
+    requires { ⌜ s .«next_index» < countBound ⌝ }
+    ensures { λ r. ⌜ (r .«next_index» ≡ s .«next_index» + 1)
+        × (r .count ≡ (if ltb (s .«next_index») (s .count) then s .count else s .«next_index» + 1)) ⌝ }
 {
-    let k = s.next;
+    let k = s.next_index;
     if k < s.count {
         return Slots {
-            next: k + 1,
+            next_index: k + 1,
             count: s.count,
         };
     }
     Slots {
-        next: k + 1,
+        next_index: k + 1,
         count: k + 1,
     }
 }
 
 // The slot for a pixel; a fresh one is cleared.
 fn slot_for(table: &mut [u32], to: Into, v: Sides) -> Target
-    requires { ⌜ (21 * v .next + 21 ≤ length (now table)) × (v .next < 2000000) ⌝ }
-    ensures { λ r. ⌜ Opened to (v .left) (v .up) (v .next) (v .count) (now (table .entry)) (now (table .exit)) (r .slot) (r .next) (r .count) ⌝ }
+    requires { ⌜ (InTable (v .«next_index») (now table)) × (v .«next_index» < countBound) ⌝ }
+    ensures { λ r. ⌜ Opened to (v .left) (v .up) (v .«next_index») (v .count) (now (table .entry))
+        (now (table .exit)) (r .slot) (r .«next_index») (r .count) ⌝ }
 {
-    let next = v.next;
+    let next_index = v.next_index;
     let count = v.count;
     match to {
         Into::Nowhere => Target {
             slot: 0,
-            next,
+            next_index,
             count,
         },
         Into::Zero => Target {
             slot: 0,
-            next,
+            next_index,
             count,
         },
         Into::Up => Target {
             slot: v.up,
-            next,
+            next_index,
             count,
         },
         Into::Left => Target {
             slot: v.left,
-            next,
+            next_index,
             count,
         },
         Into::Fresh => {
-            slot::clear_slot(table, next);
-            let s = slot_taken(Slots { next, count });
+            slot::clear_slot(table, next_index);
+            let s = slot_taken(Slots { next_index, count });
             Target {
-                slot: next,
-                next: s.next,
+                slot: next_index,
+                next_index: s.next_index,
                 count: s.count,
             }
         }
@@ -227,47 +256,54 @@ fn slot_for(table: &mut [u32], to: Into, v: Sides) -> Target
 
 // Steps 2 to 5.
 fn place(
-    image: &[u8],
     labels: &mut [u32],
     links: &mut [u32],
     table: &mut [u32],
     ends: &mut [u32],
     o: RunnerConfig,
     shift: u32,
-    w: u32,
+    p: Seen,
     v: Sides,
     i: u32,
     x: u32,
     y: u32,
 ) -> Slots
-    requires { ⌜ ((h : ℕ) × (st : State) × (t₀ : List ℕ) × Placing (configOf o) w h (now image) shift i x y (v .left) (v .up) st t₀ (now labels) (now links) (now table) (now ends) (v .next) (v .count)) ⌝ }
-    ensures { λ r. ⌜ ((h : ℕ) (st : State) (t₀ : List ℕ) → Placing (configOf o) w h (now (image .entry)) shift i x y (v .left) (v .up) st t₀ (now (labels .entry)) (now (links .entry)) (now (table .entry)) (now (ends .entry)) (v .next) (v .count) → Holding (w * h) (rules.place (configOf o) w (now (image .entry)) i (v .left) (v .up) st) t₀ (now (labels .exit)) (now (links .exit)) (now (table .exit)) (now (ends .exit)) (r .next) (r .count)) ⌝ }
+    requires { ⌜ ((w : ℕ) × (h : ℕ) × (image : List ℕ) × (st : State) × (t₀ : List ℕ) × SeenAt w image i p
+        × Placing (configOf o) w h image shift i x y (v .left) (v .up) st t₀
+        (now labels) (now links) (now table) (now ends) (v .«next_index») (v .count)) ⌝ }
+    ensures { λ r. ⌜ ((w h : ℕ) (image : List ℕ) (st : State) (t₀ : List ℕ) → SeenAt w image i p
+        → Placing (configOf o) w h image shift i x y (v .left) (v .up) st t₀
+        (now (labels .entry)) (now (links .entry)) (now (table .entry)) (now (ends .entry)) (v .«next_index») (v .count)
+        → Holding (w * h) (rules.place (configOf o) w image i (v .left) (v .up) st) t₀
+        (now (labels .exit)) (now (links .exit)) (now (table .exit)) (now (ends .exit)) (r .«next_index»)
+        (r .count)) ⌝ }
 {
-    let to = aims(image, o, shift, w, i, x, y);
+    let to = goes_into(o, shift, p);
     if is_nowhere(to) {
         return Slots {
-            next: v.next,
+            next_index: v.next_index,
             count: v.count,
         };
     }
     let t = slot_for(table, to, v);
-    let c = keying::color_at(image, i);
-    builder::add(labels, links, table, ends, t.slot, i, x, y, c);
+    builder::add(labels, links, table, ends, t.slot, i, x, y, p.own);
     Slots {
-        next: t.next,
+        next_index: t.next_index,
         count: t.count,
     }
 }
 
 // Next falls by one where l was the number just below it and next equals the slot count.
 fn lower_next(s: Slots, l: u32) -> Slots
-    requires { ⌜ l < 2000000 ⌝ }
-    ensures { λ r. ⌜ (r .next ≡ (if eqb (l + 1) (s .next) && eqb (s .next) (s .count) then s .next - 1 else s .next)) × (r .count ≡ s .count) ⌝ }
+    requires { ⌜ l < countBound ⌝ }
+    ensures { λ r. ⌜ (r .«next_index»
+        ≡ (if eqb (l + 1) (s .«next_index»)
+        && eqb (s .«next_index») (s .count) then s .«next_index» - 1 else s .«next_index»)) × (r .count ≡ s .count) ⌝ }
 {
-    if l + 1 == s.next {
-        if s.next == s.count {
+    if l + 1 == s.next_index {
+        if s.next_index == s.count {
             return Slots {
-                next: l,
+                next_index: l,
                 count: s.count,
             };
         }
@@ -275,8 +311,9 @@ fn lower_next(s: Slots, l: u32) -> Slots
     s
 }
 
-// Step 1, the merge: the smaller cluster goes into the larger, left into up on equal counts. Both sides then have the survivor's number.
-fn combine(
+// Step 1, the merge: the smaller cluster goes into the larger, left into up on equal counts. Both sides then have the
+// survivor's number.
+fn combine_sides(
     labels: &mut [u32],
     links: &mut [u32],
     table: &mut [u32],
@@ -285,24 +322,32 @@ fn combine(
     u: u32,
     s: Slots,
 ) -> Sides
-    requires { ⌜ ((o : Config) × (w : ℕ) × (h : ℕ) × (image : List ℕ) × (shift : ℕ) × (i : ℕ) × (x : ℕ) × (y : ℕ) × (st : State) × (t₀ : List ℕ) × Meeting o w h image shift i x y l u st t₀ (now labels) (now links) (now table) (now ends) (s .next) (s .count)) ⌝ }
-    ensures { λ r. ⌜ ((o : Config) (w h : ℕ) (image : List ℕ) (shift i x y : ℕ) (st : State) (t₀ : List ℕ) → Meeting o w h image shift i x y l u st t₀ (now (labels .entry)) (now (links .entry)) (now (table .entry)) (now (ends .entry)) (s .next) (s .count) → Sided o w h image shift i x y (rules.combineThenPlace o w image i l u st) t₀ (now (labels .exit)) (now (links .exit)) (now (table .exit)) (now (ends .exit)) (r .left) (r .up) (r .next) (r .count)) ⌝ }
+    requires { ⌜ ((o : Config) × (w : ℕ) × (h : ℕ) × (image : List ℕ) × (shift : ℕ) × (i : ℕ) × (x : ℕ) × (y : ℕ)
+        × (st : State) × (t₀ : List ℕ)
+        × Meeting o w h image shift i x y l u st t₀ (now labels) (now links) (now table) (now ends) (s .«next_index»)
+        (s .count)) ⌝ }
+    ensures { λ r. ⌜ ((o : Config) (w h : ℕ) (image : List ℕ) (shift i x y : ℕ) (st : State) (t₀ : List ℕ)
+        → Meeting o w h image shift i x y l u st t₀
+        (now (labels .entry)) (now (links .entry)) (now (table .entry)) (now (ends .entry)) (s .«next_index») (s .count)
+        → Sided o w h image shift i x y (rules.combineThenPlace o w image i l u st) t₀
+        (now (labels .exit)) (now (links .exit)) (now (table .exit)) (now (ends .exit)) (r .left) (r .up)
+        (r .«next_index») (r .count)) ⌝ }
 {
     if slot::count_of(table, l) <= slot::count_of(table, u) {
-        builder::combine(labels, links, table, ends, l, u);
+        builder::combine_clusters(labels, links, table, ends, l, u);
         let t = lower_next(s, l);
         return Sides {
             left: u,
             up: u,
-            next: t.next,
+            next_index: t.next_index,
             count: t.count,
         };
     }
-    builder::combine(labels, links, table, ends, u, l);
+    builder::combine_clusters(labels, links, table, ends, u, l);
     Sides {
         left: l,
         up: l,
-        next: s.next,
+        next_index: s.next_index,
         count: s.count,
     }
 }
@@ -321,7 +366,8 @@ fn up_label(labels: &[u32], w: u32, i: u32, y: u32) -> u32
 fn left_label(labels: &[u32], i: u32, x: u32) -> u32
     requires { ⌜ i < length (now labels) ⌝ }
     requires { ⌜ x ≤ i ⌝ }
-    ensures { λ r. ⌜ ((st : State) (w : ℕ) → now (labels .entry) ≡ st .labels → x ≡ i % w → r ≡ rules.labelAt st (grid.left w i)) ⌝ }
+    ensures { λ r. ⌜ ((st : State) (w : ℕ) → now (labels .entry) ≡ st .labels → x ≡ i % w → r
+        ≡ rules.labelAt st (grid.left w i)) ⌝ }
 {
     if x == 0 {
         return 0;
@@ -331,7 +377,6 @@ fn left_label(labels: &[u32], i: u32, x: u32) -> u32
 
 // Step 1: the labels of left and up, whose clusters are combined where they meet.
 fn meet(
-    image: &[u8],
     labels: &mut [u32],
     links: &mut [u32],
     table: &mut [u32],
@@ -339,28 +384,36 @@ fn meet(
     o: RunnerConfig,
     shift: u32,
     w: u32,
+    p: Seen,
     s: Slots,
     i: u32,
     x: u32,
     y: u32,
 ) -> Sides
-    requires { ⌜ ((h : ℕ) × (t₀ : List ℕ) × Taking (configOf o) w h (now image) shift i x y t₀ (now labels) (now links) (now table) (now ends) (s .next) (s .count)) ⌝ }
-    ensures { λ r. ⌜ ((h : ℕ) (t₀ : List ℕ) → Taking (configOf o) w h (now (image .entry)) shift i x y t₀ (now (labels .entry)) (now (links .entry)) (now (table .entry)) (now (ends .entry)) (s .next) (s .count) → Sided (configOf o) w h (now (image .entry)) shift i x y (rules.taken (configOf o) w (now (image .entry)) (w * h) (suc i)) t₀ (now (labels .exit)) (now (links .exit)) (now (table .exit)) (now (ends .exit)) (r .left) (r .up) (r .next) (r .count)) ⌝ }
+    requires { ⌜ ((h : ℕ) × (image : List ℕ) × (t₀ : List ℕ) × SeenAt w image i p
+        × Taking (configOf o) w h image shift i x y t₀
+        (now labels) (now links) (now table) (now ends) (s .«next_index») (s .count)) ⌝ }
+    ensures { λ r. ⌜ ((h : ℕ) (image t₀ : List ℕ) → SeenAt w image i p
+        → Taking (configOf o) w h image shift i x y t₀
+        (now (labels .entry)) (now (links .entry)) (now (table .entry)) (now (ends .entry)) (s .«next_index») (s .count)
+        → Sided (configOf o) w h image shift i x y (rules.taken (configOf o) w image (w * h) (suc i)) t₀
+        (now (labels .exit)) (now (links .exit)) (now (table .exit)) (now (ends .exit))
+        (r .left) (r .up) (r .«next_index») (r .count)) ⌝ }
 {
     let u = up_label(labels, w, i, y);
     let l = left_label(labels, i, x);
-    if left_meets_up(image, o, shift, w, l, u, i, x, y) {
-        return combine(labels, links, table, ends, l, u, s);
+    if left_meets_up(o, shift, l, u, p) {
+        return combine_sides(labels, links, table, ends, l, u, s);
     }
     Sides {
         left: l,
         up: u,
-        next: s.next,
+        next_index: s.next_index,
         count: s.count,
     }
 }
 
-// Pixel i, at column x and row y, is taken.
+// Pixel i, at column x and row y, is taken. It is on the image, so its colour is never none.
 fn take_pixel(
     image: &[u8],
     labels: &mut [u32],
@@ -370,21 +423,32 @@ fn take_pixel(
     o: RunnerConfig,
     shift: u32,
     w: u32,
+    h: u32,
     s: Slots,
     i: u32,
     x: u32,
     y: u32,
 ) -> Slots
-    requires { ⌜ ((h : ℕ) × (t₀ : List ℕ) × Taking (configOf o) w h (now image) shift i x y t₀ (now labels) (now links) (now table) (now ends) (s .next) (s .count)) ⌝ }
-    ensures { λ r. ⌜ ((h : ℕ) (t₀ : List ℕ) → Taking (configOf o) w h (now (image .entry)) shift i x y t₀ (now (labels .entry)) (now (links .entry)) (now (table .entry)) (now (ends .entry)) (s .next) (s .count) → Holding (w * h) (rules.taken (configOf o) w (now (image .entry)) (w * h) (suc i)) t₀ (now (labels .exit)) (now (links .exit)) (now (table .exit)) (now (ends .exit)) (r .next) (r .count)) ⌝ }
+    requires { ⌜ ((t₀ : List ℕ) × Taking (configOf o) w h (now image) shift i x y t₀
+        (now labels) (now links) (now table) (now ends) (s .«next_index») (s .count)) ⌝ }
+    ensures { λ r. ⌜ ((t₀ : List ℕ)
+        → Taking (configOf o) w h
+        (now (image .entry)) shift i x y t₀ (now (labels .entry)) (now (links .entry)) (now (table .entry))
+        (now (ends .entry)) (s .«next_index») (s .count)
+        → Holding (w * h) (rules.taken (configOf o) w (now (image .entry)) (w * h) (suc i)) t₀ (now (labels .exit))
+        (now (links .exit)) (now (table .exit)) (now (ends .exit)) (r .«next_index») (r .count)) ⌝ }
 {
-    let v = meet(image, labels, links, table, ends, o, shift, w, s, i, x, y);
-    place(image, labels, links, table, ends, o, shift, w, v, i, x, y)
+    let ColorOrNone::Some(c) = color::pixel_at(image, w, h, x, y) else {
+        return s;
+    };
+    let p = seen_from(image, w, h, x, y, c);
+    let v = meet(labels, links, table, ends, o, shift, w, p, s, i, x, y);
+    place(labels, links, table, ends, o, shift, p, v, i, x, y)
 }
 
 // Next and count after a step, and how many pixels it took.
 struct Step {
-    next: u32,
+    next_index: u32,
     count: u32,
     pixels: u32,
 }
@@ -400,25 +464,43 @@ fn take_pixels(
     shift: u32,
     limits: &[u8; 16],
     w: u32,
+    h: u32,
     s: Slots,
     i: u32,
     x: u32,
     y: u32,
 ) -> Step
     requires { ⌜ LimitsOf (configOf o) (now limits) ⌝ }
-    requires { ⌜ ((h : ℕ) × (t₀ : List ℕ) × Taking (configOf o) w h (now image) shift i x y t₀
-        (now labels) (now links) (now table) (now ends) (s .next) (s .count)) ⌝ }
-    ensures { λ r. ⌜ (0 < r .pixels) × (x + r .pixels ≤ w) × ((h : ℕ) (t₀ : List ℕ)
-        → Taking (configOf o) w h (now (image .entry)) shift i x y t₀
-        (now (labels .entry)) (now (links .entry)) (now (table .entry)) (now (ends .entry)) (s .next) (s .count)
+    requires { ⌜ ((t₀ : List ℕ) × Taking (configOf o) w h (now image) shift i x y t₀
+        (now labels) (now links) (now table) (now ends) (s .«next_index») (s .count)) ⌝ }
+    ensures { λ r. ⌜ (0 < r .pixels) × (x + r .pixels ≤ w)
+        × ((t₀ : List ℕ)
+        → Taking (configOf o) w h
+        (now (image .entry)) shift i x y t₀ (now (labels .entry)) (now (links .entry)) (now (table .entry))
+        (now (ends .entry)) (s .«next_index») (s .count)
         → Holding (w * h) (rules.taken (configOf o) w (now (image .entry)) (w * h) (i + r .pixels)) t₀
-        (now (labels .exit)) (now (links .exit)) (now (table .exit)) (now (ends .exit)) (r .next) (r .count)) ⌝ }
+        (now (labels .exit)) (now (links .exit)) (now (table .exit)) (now (ends .exit)) (r .«next_index»)
+        (r .count)) ⌝ }
 {
     let n = spans::span_length(image, labels, o, shift, limits, w, i, x, y);
     if n == 0 {
-        let t = take_pixel(image, labels, links, table, ends, o, shift, w, s, i, x, y);
+        let t = take_pixel(
+            image,
+            labels,
+            links,
+            table,
+            ends,
+            o,
+            shift,
+            w,
+            h,
+            s,
+            i,
+            x,
+            y,
+        );
         return Step {
-            next: t.next,
+            next_index: t.next_index,
             count: t.count,
             pixels: 1,
         };
@@ -426,7 +508,7 @@ fn take_pixels(
     let k = labels[(i - 1) as usize];
     spans::add_span(image, labels, links, table, ends, k, i, x, y, n);
     Step {
-        next: s.next,
+        next_index: s.next_index,
         count: s.count,
         pixels: n,
     }
@@ -440,7 +522,7 @@ struct Cell {
 
 // The pixel n after column x, row y, of a row that goes so far.
 fn cell_past(w: u32, x: u32, y: u32, n: u32) -> Cell
-    requires { ⌜ (0 < n) × (x + n ≤ w) × (w < 2000000) × (y < 2000000) ⌝ }
+    requires { ⌜ (0 < n) × (x + n ≤ w) × (w < countBound) × (y < countBound) ⌝ }
     ensures { λ r. ⌜ (r .x < w) × ((i : ℕ) → i ≡ w * y + x → i + n ≡ w * r .y + r .x) ⌝ }
 {
     if x + n == w {
@@ -463,11 +545,15 @@ pub(crate) fn stage_1(
 ) -> Slots
     requires { ⌜ Given (configOf o) w h (now image) shift ⌝ }
     requires { ⌜ Blank (w * h) (now labels) (now links) (now table) (now ends) ⌝ }
-    ensures { λ r. ⌜ Holding (w * h) (run.stage1 (configOf o) w h (now (image .entry))) (now (table .entry)) (now (labels .exit)) (now (links .exit)) (now (table .exit)) (now (ends .exit)) (r .next) (r .count) ⌝ }
+    ensures { λ r. ⌜ Holding (w * h) (run.stage1 (configOf o) w h (now (image .entry))) (now (table .entry))
+        (now (labels .exit)) (now (links .exit)) (now (table .exit)) (now (ends .exit)) (r .«next_index») (r .count) ⌝ }
 {
     slot::clear_slot(table, 0);
     let size = w * h;
-    let mut s = Slots { next: 1, count: 1 };
+    let mut s = Slots {
+        next_index: 1,
+        count: 1,
+    };
     let limits = spans::limits_of(o);
     let mut i = 0;
     let mut at = Cell { x: 0, y: 0 };
@@ -482,13 +568,14 @@ pub(crate) fn stage_1(
             shift,
             &limits,
             w,
+            h,
             s,
             i,
             at.x,
             at.y,
         );
         s = Slots {
-            next: t.next,
+            next_index: t.next_index,
             count: t.count,
         };
         i += t.pixels;

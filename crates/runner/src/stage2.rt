@@ -1,19 +1,25 @@
 // Stage 2, merges and the output order, after `stage_2` of builder.rs.
 //
-// The work buffer has four parts, for room = w × h + 1 slots: the queue (3 × room), the ends of the lists (2 × room), the marks of the
-// neighbours (room), and the outputs before any is dropped (2 × room).
+// The work buffer has four parts, for room = w × h + 1 slots: the queue (3 × room), the ends of the lists (2 × room),
+// the marks of the neighbours (room), and the outputs before any is dropped (2 × room).
 ghost use mathlib.Core.Path.{_≡_};
 ghost use mathlib.Core.Bool.{true};
 ghost use mathlib.Core.List.{List};
-ghost use Prim.Native.Nat.{ℕ, _+_, _*_, _≤_, _<_, max};
+ghost use Prim.Native.Nat.{ℕ, _+_, _*_, _≤_, _<_};
 ghost use lib.Dec.{T};
 ghost use lib.ListN.{length};
 ghost use Rattle.rules.specs.Color;
 ghost use Rattle.rules.specs.Paint.{reads};
 ghost use Rattle.rules.specs.Run.{stage1, stage2};
+ghost use Rattle.rules.specs.Layout.{slotWidth, InTable};
+ghost use Rattle.rules.specs.Code.Bounds.{countBound};
 ghost use Rattle.runner.specs.Types.{configOf};
-ghost use Rattle.runner.specs.Queue.{stored};
-ghost use Rattle.runner.specs.Stage2.{Prepared, PreparedSlot, deepensAt, CanPut, Put, goesOut, CanGrow, Grown, Between, Chosen, Visiting, Aimed, Deepening, Visited, Entered, CanStage2, Staged};
+ghost use Rattle.runner.specs.Code.Queue.{queueKey};
+ghost use Rattle.runner.specs.Code.Stage2.{Prepared, PreparedSlot, patchGoodAt, deepensAt, CanPut, Put, goesOut};
+ghost use Rattle.runner.specs.Code.Stage2.{CanGrow};
+ghost use Rattle.runner.specs.Code.Stage2.{Grown, Between, Chosen, Visiting, Aimed, Deepening, Visited, Entered};
+ghost use Rattle.runner.specs.Code.Stage2.{CanStage2, Staged};
+use super::bound;
 use super::builder;
 use super::cluster;
 use super::cluster::Nearest;
@@ -21,6 +27,7 @@ use super::geometry;
 use super::keying;
 use super::queue;
 use super::slot;
+use crate::HIERARCHICAL_MAX;
 use crate::RunnerConfig;
 
 // What stage 2 carries from turn to turn: slots, outputs, turns made, and the largest pixel count.
@@ -32,8 +39,8 @@ pub(crate) struct Turns {
 }
 
 // Each residue is set to its sum, and each slot with pixels is pending; answers the largest pixel count.
-fn prepare(table: &mut [u32], queue: &mut [u32], n: u32) -> u32
-    requires { ⌜ (21 * n ≤ length (now table)) × (n ≤ length (now queue)) × (n ≤ 2000000) ⌝ }
+fn prepare_stage_2(table: &mut [u32], queue: &mut [u32], n: u32) -> u32
+    requires { ⌜ (slotWidth * n ≤ length (now table)) × (n ≤ length (now queue)) × (n ≤ countBound) ⌝ }
     ensures { λ r. ⌜ Prepared n (now (table .entry)) (now (queue .entry)) (now (table .exit)) (now (queue .exit)) r ⌝ }
 {
     let mut k = 0;
@@ -47,27 +54,21 @@ fn prepare(table: &mut [u32], queue: &mut [u32], n: u32) -> u32
 
 // The same of slot k; answers the larger of its pixel count and `largest`.
 fn prepare_slot(table: &mut [u32], queue: &mut [u32], k: u32, largest: u32) -> u32
-    requires { ⌜ (21 * k + 21 ≤ length (now table)) × (k < length (now queue)) ⌝ }
-    ensures { λ r. ⌜ PreparedSlot k largest (now (table .entry)) (now (queue .entry)) (now (table .exit)) (now (queue .exit)) r ⌝ }
+    requires { ⌜ (InTable k (now table)) × (k < length (now queue)) ⌝ }
+    ensures { λ r. ⌜ PreparedSlot k largest (now (table .entry)) (now (queue .entry))
+        (now (table .exit)) (now (queue .exit)) r ⌝ }
 {
     let s = slot::load_head(table, k);
     slot::save_residue(table, k, s.sum);
     queue[k as usize] = key_of(s.count);
-    larger(largest, s.count)
+    bound::max(largest, s.count)
 }
 
 // The key of a slot of so many pixels.
 fn key_of(count: u32) -> u32
-    ensures { λ r. ⌜ r ≡ stored count ⌝ }
+    ensures { λ r. ⌜ r ≡ queueKey count ⌝ }
 {
     if count == 0 { queue::NONE } else { count }
-}
-
-// The larger of two numbers.
-fn larger(a: u32, b: u32) -> u32
-    ensures { λ r. ⌜ r ≡ max a b ⌝ }
-{
-    if a < b { b } else { a }
 }
 
 // Whether d exceeds the signed number z.
@@ -78,7 +79,36 @@ fn exceeds(d: u32, z: i32) -> bool
     !((d as i32) <= z)
 }
 
-// Whether cluster k, of so many pixels from first, deepens into a neighbour of difference diff.
+// Whether cluster k, of so many pixels from first, may stay a patch, after `patch_good` of runner.rs: a boundary
+// smaller than the area is told by one pixel inside.
+fn patch_good(
+    image: &[u8],
+    labels: &[u32],
+    links: &[u32],
+    o: RunnerConfig,
+    w: u32,
+    h: u32,
+    k: u32,
+    first: u32,
+    area: u32,
+) -> bool
+    requires { ⌜ (w * h ≡ length (now labels)) × (w * h ≤ length (now links))
+        × (4 * length (now labels) ≤ length (now image)) × (w * h ≤ countBound) × (0 < w) ⌝ }
+    requires { ⌜ T (reads (w * h) (now links) first area) ⌝ }
+    ensures { λ r. ⌜ r
+        ≡ patchGoodAt (configOf o)
+        (now (image .entry)) (now (labels .entry)) (now (links .entry)) w h k first area ⌝ }
+{
+    if !((o.good_min_area < area) & (area < o.good_max_area)) {
+        return false;
+    }
+    if o.good_min_area == 0 {
+        return true;
+    }
+    geometry::has_interior(image, labels, links, o, w, h, k, first, area)
+}
+
+// Whether it deepens into a neighbour of difference diff.
 fn deepens(
     image: &[u8],
     labels: &[u32],
@@ -91,23 +121,22 @@ fn deepens(
     area: u32,
     diff: u32,
 ) -> bool
-    requires { ⌜ (w * h ≡ length (now labels)) × (w * h ≤ length (now links)) × (4 * length (now labels) ≤ length (now image)) × (w * h ≤ 2000000) × (0 < w) ⌝ }
+    requires { ⌜ (w * h ≡ length (now labels)) × (w * h ≤ length (now links))
+        × (4 * length (now labels) ≤ length (now image)) × (w * h ≤ countBound) × (0 < w) ⌝ }
     requires { ⌜ T (reads (w * h) (now links) first area) ⌝ }
     requires { ⌜ diff < 2147483648 ⌝ }
-    ensures { λ r. ⌜ r ≡ deepensAt (configOf o) (now (image .entry)) (now (labels .entry)) (now (links .entry)) w h k first area diff ⌝ }
+    ensures { λ r. ⌜ r
+        ≡ deepensAt (configOf o)
+        (now (image .entry)) (now (labels .entry)) (now (links .entry)) w h k first area diff ⌝ }
 {
-    let good = (o.hierarchical == 4294967295) & (o.good_min_area < area) & (area < o.good_max_area);
-    if !(good & exceeds(diff, o.deepen_diff)) {
+    if !((o.hierarchical == HIERARCHICAL_MAX) & exceeds(diff, o.deepen_diff)) {
         return false;
     }
-    if o.good_min_area == 0 {
-        return true;
-    }
-    geometry::has_interior(image, labels, links, o, w, h, k, first, area)
+    patch_good(image, labels, links, o, w, h, k, first, area)
 }
 
 // Cluster k is put out.
-fn put(work: &mut [u32], room: usize, t: Turns, k: u32) -> Turns
+fn put_out(work: &mut [u32], room: usize, t: Turns, k: u32) -> Turns
     requires { ⌜ CanPut room (t .m) (now work) ⌝ }
     ensures { λ r. ⌜ Put true room k t r (now (work .entry)) (now (work .exit)) ⌝ }
 {
@@ -138,12 +167,12 @@ fn grown(table: &[u32], work: &mut [u32], room: usize, t: Turns, to: u32) -> Tur
         n: t.n,
         m: t.m,
         turns: t.turns,
-        largest: larger(t.largest, count),
+        largest: bound::max(t.largest, count),
     }
 }
 
 // A deepening merge of k into the nearest neighbour.
-fn deepen_into(
+fn deepen_into_nearest(
     labels: &mut [u32],
     links: &mut [u32],
     table: &mut [u32],
@@ -154,13 +183,18 @@ fn deepen_into(
     k: u32,
     near: Nearest,
 ) -> Turns
-    requires { ⌜ ((w : ℕ) × (h : ℕ) × (image : List ℕ) × (t₀ : List ℕ) × (a : ℕ) × Deepening (configOf o) w h image t₀ (now labels) (now links) (now table) (now work) t room k a near) ⌝ }
-    ensures { λ r. ⌜ ((w h : ℕ) (image t₀ : List ℕ) (a : ℕ) → Deepening (configOf o) w h image t₀ (now (labels .entry)) (now (links .entry)) (now (table .entry)) (now (work .entry)) t room k a near → Visited (configOf o) w h image t₀ (now (labels .exit)) (now (links .exit)) (now (table .exit)) (now (work .exit)) t r k) ⌝ }
+    requires { ⌜ ((w : ℕ) × (h : ℕ) × (image : List ℕ) × (t₀ : List ℕ) × (a : ℕ)
+        × Deepening (configOf o) w h image t₀ (now labels) (now links) (now table) (now work) t room k a near) ⌝ }
+    ensures { λ r. ⌜ ((w h : ℕ) (image t₀ : List ℕ) (a : ℕ)
+        → Deepening (configOf o) w h image t₀
+        (now (labels .entry)) (now (links .entry)) (now (table .entry)) (now (work .entry)) t room k a near
+        → Visited (configOf o) w h image t₀
+        (now (labels .exit)) (now (links .exit)) (now (table .exit)) (now (work .exit)) t r k) ⌝ }
 {
     let r = room as usize;
     let to = near.target;
-    let put = put(work, r, t, k);
-    builder::deepen(labels, links, table, &mut work[3 * r..5 * r], k, to);
+    let put = put_out(work, r, t, k);
+    builder::deepen_cluster_into(labels, links, table, &mut work[3 * r..5 * r], k, to);
     if near.count <= o.hollow_neighbours {
         builder::append_hole(table, &mut work[3 * r..5 * r], room, k, to);
         return grown(table, work, r, put, to);
@@ -169,7 +203,7 @@ fn deepen_into(
 }
 
 // Cluster k, of so many pixels, goes into the nearest of its neighbours.
-fn merge_into(
+fn merge_into_nearest(
     image: &[u8],
     labels: &mut [u32],
     links: &mut [u32],
@@ -185,17 +219,25 @@ fn merge_into(
     near: Nearest,
 ) -> Turns
     requires { ⌜ room ≡ w * h + 1 ⌝ }
-    requires { ⌜ ((t₀ : List ℕ) × Visiting (configOf o) w h (now image) t₀ (now labels) (now links) (now table) (now work) t k area (t .turns + 1)) ⌝ }
+    requires { ⌜ ((t₀ : List ℕ)
+        × Visiting (configOf o) w h (now image) t₀ (now labels) (now links) (now table) (now work) t k area
+        (t .turns + 1)) ⌝ }
     requires { ⌜ Aimed (configOf o) w h (now image) (t .turns) k near ⌝ }
-    ensures { λ r. ⌜ ((t₀ : List ℕ) → Visiting (configOf o) w h (now (image .entry)) t₀ (now (labels .entry)) (now (links .entry)) (now (table .entry)) (now (work .entry)) t k area (t .turns + 1) → Visited (configOf o) w h (now (image .entry)) t₀ (now (labels .exit)) (now (links .exit)) (now (table .exit)) (now (work .exit)) t r k) ⌝ }
+    ensures { λ r. ⌜ ((t₀ : List ℕ)
+        → Visiting (configOf o) w h
+        (now (image .entry)) t₀ (now (labels .entry)) (now (links .entry)) (now (table .entry)) (now (work .entry)) t k
+        area (t .turns + 1)
+        → Visited (configOf o) w h
+        (now (image .entry)) t₀ (now (labels .exit)) (now (links .exit)) (now (table .exit)) (now (work .exit)) t r
+        k) ⌝ }
 {
     let r = room as usize;
     let first = slot::first_pixel(table, k);
     if deepens(image, labels, links, o, w, h, k, first, area, near.diff) {
-        return deepen_into(labels, links, table, work, o, room, t, k, near);
+        return deepen_into_nearest(labels, links, table, work, o, room, t, k, near);
     }
     let to = near.target;
-    builder::merge(labels, links, table, &mut work[3 * r..5 * r], k, to);
+    builder::merge_cluster_into(labels, links, table, &mut work[3 * r..5 * r], k, to);
     grown(table, work, r, t, to)
 }
 
@@ -205,7 +247,7 @@ fn isolated(work: &mut [u32], o: RunnerConfig, room: usize, t: Turns, k: u32, ar
     ensures { λ r. ⌜ Put (goesOut (configOf o) (t .largest) area) room k t r (now (work .entry)) (now (work .exit)) ⌝ }
 {
     if (t.largest <= area) | (keying::keying_on(o) & keying::is_discard(o)) {
-        return put(work, room, t, k);
+        return put_out(work, room, t, k);
     }
     t
 }
@@ -226,12 +268,20 @@ fn visit(
     area: u32,
 ) -> Turns
     requires { ⌜ room ≡ w * h + 1 ⌝ }
-    requires { ⌜ ((t₀ : List ℕ) × Visiting (configOf o) w h (now image) t₀ (now labels) (now links) (now table) (now work) t k area (t .turns)) ⌝ }
-    ensures { λ r. ⌜ ((t₀ : List ℕ) → Visiting (configOf o) w h (now (image .entry)) t₀ (now (labels .entry)) (now (links .entry)) (now (table .entry)) (now (work .entry)) t k area (t .turns) → Visited (configOf o) w h (now (image .entry)) t₀ (now (labels .exit)) (now (links .exit)) (now (table .exit)) (now (work .exit)) t r k) ⌝ }
+    requires { ⌜ ((t₀ : List ℕ)
+        × Visiting (configOf o) w h (now image) t₀ (now labels) (now links) (now table) (now work) t k area (t .turns))
+        ⌝ }
+    ensures { λ r. ⌜ ((t₀ : List ℕ)
+        → Visiting (configOf o) w h
+        (now (image .entry)) t₀ (now (labels .entry)) (now (links .entry)) (now (table .entry)) (now (work .entry)) t k
+        area (t .turns)
+        → Visited (configOf o) w h
+        (now (image .entry)) t₀ (now (labels .exit)) (now (links .exit)) (now (table .exit)) (now (work .exit)) t r
+        k) ⌝ }
 {
     let r = room as usize;
     if o.hierarchical < area {
-        return put(work, r, t, k);
+        return put_out(work, r, t, k);
     }
     if area == w * h {
         return isolated(work, o, r, t, k, area);
@@ -249,7 +299,7 @@ fn visit(
     if near.count == 0 {
         return isolated(work, o, r, t, k, area);
     }
-    merge_into(
+    merge_into_nearest(
         image,
         labels,
         links,
@@ -282,9 +332,15 @@ fn turn(
     area: u32,
 ) -> Turns
     requires { ⌜ room ≡ w * h + 1 ⌝ }
-    requires { ⌜ ((t₀ : List ℕ) × Between (configOf o) w h (now image) t₀ (now labels) (now links) (now table) (now work) t) ⌝ }
+    requires { ⌜ ((t₀ : List ℕ)
+        × Between (configOf o) w h (now image) t₀ (now labels) (now links) (now table) (now work) t) ⌝ }
     requires { ⌜ Chosen (configOf o) w h (now image) (t .turns) k area ⌝ }
-    ensures { λ r. ⌜ ((t₀ : List ℕ) → Between (configOf o) w h (now (image .entry)) t₀ (now (labels .entry)) (now (links .entry)) (now (table .entry)) (now (work .entry)) t → Between (configOf o) w h (now (image .entry)) t₀ (now (labels .exit)) (now (links .exit)) (now (table .exit)) (now (work .exit)) r) × (r .turns ≡ t .turns + 1) ⌝ }
+    ensures { λ r. ⌜ ((t₀ : List ℕ)
+        → Between (configOf o) w h
+        (now (image .entry)) t₀ (now (labels .entry)) (now (links .entry)) (now (table .entry)) (now (work .entry)) t
+        → Between (configOf o) w h
+        (now (image .entry)) t₀ (now (labels .exit)) (now (links .exit)) (now (table .exit)) (now (work .exit)) r)
+        × (r .turns ≡ t .turns + 1) ⌝ }
 {
     let r = room as usize;
     queue::set_key(
@@ -316,12 +372,17 @@ pub(crate) fn stage_2(
     n: u32,
 ) -> Turns
     requires { ⌜ CanStage2 w h (now image) (now work) ⌝ }
-    requires { ⌜ ((t₀ : List ℕ) × Entered (configOf o) w h (now image) t₀ (now labels) (now links) (now table) (now work) n) ⌝ }
-    ensures { λ r. ⌜ ((t₀ : List ℕ) → Entered (configOf o) w h (now (image .entry)) t₀ (now (labels .entry)) (now (links .entry)) (now (table .entry)) (now (work .entry)) n → Staged (w * h) (stage2 (configOf o) w h (stage1 (configOf o) w h (now (image .entry)))) t₀ (now (labels .exit)) (now (links .exit)) (now (table .exit)) (now (work .exit)) (r .n) (r .m)) ⌝ }
+    requires { ⌜ ((t₀ : List ℕ)
+        × Entered (configOf o) w h (now image) t₀ (now labels) (now links) (now table) (now work) n) ⌝ }
+    ensures { λ r. ⌜ ((t₀ : List ℕ)
+        → Entered (configOf o) w h
+        (now (image .entry)) t₀ (now (labels .entry)) (now (links .entry)) (now (table .entry)) (now (work .entry)) n
+        → Staged (w * h) (stage2 (configOf o) w h (stage1 (configOf o) w h (now (image .entry)))) t₀
+        (now (labels .exit)) (now (links .exit)) (now (table .exit)) (now (work .exit)) (r .n) (r .m)) ⌝ }
 {
     let room = w * h + 1;
     let r = room as usize;
-    let largest = prepare(table, &mut work[0..3 * r], n);
+    let largest = prepare_stage_2(table, &mut work[0..3 * r], n);
     queue::build(&mut work[0..3 * r], n as usize, r);
     let mut t = Turns {
         n,

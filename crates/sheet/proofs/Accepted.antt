@@ -7,9 +7,9 @@ use native.Mathlib.Omega.{arith}
 use borrow.Author.Tests.{leb-false, ltb-false}
 use lib.Dec.{leb, ltb, eqb}
 use Rattle.rules.specs.Base.{if_then_else_}
-use Rattle.rules.specs.Refusals.{Check, when, firstFailed, sizeChecks, limit, tableLength, outputsLength, badCounts, rowAnswer, storeAnswer}
-use Rattle.rules.proofs.Accepted.{passed, neither, equal, failed-later}
-use Rattle.sheet.specs.Lengths.{CanStore}
+use Rattle.rules.specs.Refusals.{Check, refusal, firstFailed, sizeChecks, limit, shortSheet, badCounts, rowAnswer, storeAnswer}
+use Rattle.rules.proofs.Accepted.{passed, neither, long-sheet, good-counts, equal, failed-later}
+use Rattle.sheet.specs.Code.Lengths.{CanStore}
 
 -- picture is a length
 pub row-accepted : (w h picture y : ℕ) → rowAnswer w h picture y ≡ 0 → (w * h ≤ limit) × (picture ≡ 4 * (w * h)) × (y < h)
@@ -24,41 +24,38 @@ row-accepted w h picture y e =
 module _ (w h labels links table outputs n m : ℕ) where
   -- check 5 of storing
   abbrev pub short : Bool
-  short = ltb labels (w * h) || ltb links (w * h) || ltb table (tableLength (w * h)) || ltb outputs (outputsLength (w * h)) || badCounts w h n m
+  short = ltb labels (w * h) || shortSheet (w * h) links table outputs || badCounts (w * h) n m
 
-  pub buffers-accepted : (later : List Check) → firstFailed (sizeChecks w h ++ (when 5 short ∷ later)) ≡ 0 → CanStore (w * h) n m labels links table outputs × (firstFailed later ≡ 0)
+  pub buffers-accepted : (later : List Check) → firstFailed (sizeChecks w h ++ (refusal 5 short ∷ later)) ≡ 0 → CanStore (w * h) n m labels links table outputs × (firstFailed later ≡ 0)
   buffers-accepted later e =
       let c2 = passed 1 (eqb w 0 || eqb h 0) _ e in
       let c3 = passed 2 (ltb limit (w * h)) _ (c2 .1) in
       let c5 = passed 4 short _ (c3 .1) in
-      let l4 = neither _ (badCounts w h n m) (c5 .0) in
-      let l3 = neither _ (ltb outputs (outputsLength (w * h))) (l4 .0) in
-      let l2 = neither _ (ltb table (tableLength (w * h))) (l3 .0) in
-      let l1 = neither (ltb labels (w * h)) (ltb links (w * h)) (l2 .0) in
-      let l0 = neither (ltb (w * h + 1) n) (ltb (2 * (w * h)) m) (l4 .1) in
-      let slots = ltb-false (w * h + 1) n (l0 .0) in
-      let entries = ltb-false (2 * (w * h)) m (l0 .1) in (
+      let l2 = neither _ (badCounts (w * h) n m) (c5 .0) in
+      let l1 = neither (ltb labels (w * h)) (shortSheet (w * h) links table outputs) (l2 .0) in
+      let long = long-sheet (w * h) links table outputs (l1 .1) in
+      let counts = good-counts (w * h) n m (l2 .1) in (
         record {
           small = ltb-false limit (w * h) (c3 .0);
-          slots = slots;
-          entries = entries;
+          slots = counts .0;
+          entries = counts .1;
           labels-fit = ltb-false labels (w * h) (l1 .0);
-          links-fit = ltb-false links (w * h) (l1 .1);
-          table-fits = omega (arith, ltb-false table (tableLength (w * h)) (l2 .1));
-          outputs-fit = omega (arith, ltb-false outputs (outputsLength (w * h)) (l3 .1));
+          links-fit = long .0;
+          table-fits = omega (arith, long .1, counts .0);
+          outputs-fit = omega (arith, long .2, counts .1);
         },
         c5 .1,
       )
 
   -- where the first checks pass, 12 and 13
   pub store-number : (destination : ℕ) (large : Bool) (exact : ℕ) → storeAnswer w h labels links table outputs destination n m large exact
-      ≡ (let early = firstFailed (sizeChecks w h ++ (when 5 short ∷ [])) in if eqb early 0 then firstFailed (when 12 large ∷ when 13 (not (eqb destination exact)) ∷ []) else early)
+      ≡ (let early = firstFailed (sizeChecks w h ++ (refusal 5 short ∷ [])) in if eqb early 0 then firstFailed (refusal 12 large ∷ refusal 13 (not (eqb destination exact)) ∷ []) else early)
   unfolding storeAnswer
-  store-number destination large exact = failed-later (sizeChecks w h ++ (when 5 short ∷ [])) (when 12 large ∷ when 13 (not (eqb destination exact)) ∷ []) tt
+  store-number destination large exact = failed-later (sizeChecks w h ++ (refusal 5 short ∷ [])) (refusal 12 large ∷ refusal 13 (not (eqb destination exact)) ∷ []) tt
 
   pub store-accepted : (destination : ℕ) (large : Bool) (exact : ℕ) → storeAnswer w h labels links table outputs destination n m large exact ≡ 0 → CanStore (w * h) n m labels links table outputs × ((large ≡ false) × (destination ≡ exact))
   unfolding storeAnswer
   store-accepted destination large exact e =
-      let c5 = buffers-accepted (when 12 large ∷ when 13 (not (eqb destination exact)) ∷ []) e in
+      let c5 = buffers-accepted (refusal 12 large ∷ refusal 13 (not (eqb destination exact)) ∷ []) e in
       let c12 = passed 11 large _ (c5 .1) in
       (c5 .0, (c12 .0, equal destination exact (passed 12 (not (eqb destination exact)) 0 (c12 .1) .0)))

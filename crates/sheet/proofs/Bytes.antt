@@ -1,7 +1,7 @@
 -- The numbers of a stored sheet and their bytes: where they lie, and whether one of them takes more than two bytes. Assumes nothing.
 use mathlib.Core.Path.{_≡_, refl, sym, ap, _∙_}
 use mathlib.Core.Bool.{Bool, true, false, not, _&&_, _||_, and-true}
-use mathlib.Core.List.{List, [], _∷_, _++_, map, append-nil}
+use mathlib.Core.List.{List, [], _∷_, _++_, map, append-nil, flatten}
 use Prim.Native.Nat.{ℕ, zero, suc, _+_, _*_, _≤_, _<_}
 use native.Mathlib.Numerals.{add-one}
 use native.Mathlib.Omega.{arith}
@@ -9,12 +9,12 @@ use borrow.Author.Tests.{leb-true, leb-false, lt-ltb, le-ltb, ltb-false}
 use lib.Dec.{leb, ltb}
 use lib.ListN.{length, getD, set, take, length-append, length-take, drop-of-length-le}
 use lib.Seq.{sets, sets-eq, append-snoc, take-suc, getD-take}
-use Rattle.rules.specs.Base.{upTo, concat, noneAbove}
-use Rattle.rules.specs.Layout.{firstPixelAt, pixelCountAt}
+use Rattle.rules.specs.Base.{upTo, noneAbove}
+use Rattle.rules.specs.Layout.{firstPixelPlace, pixelCountPlace}
 use Rattle.rules.specs.Paint.{slotNumber}
 use Rattle.rules.specs.Stored.{isLarge, twoBytes, storedBytes, pixelNumbers, slotNumbers, storedNumbers}
 use Rattle.rules.proofs.Accepted.{neither}
-use Rattle.rules.proofs.Layouts.{concat-snoc, spread, spread-at}
+use Rattle.rules.proofs.Layouts.{flatten-snoc, spread, spread-at}
 
 -- ---- bytes
 
@@ -72,13 +72,13 @@ small-at (x ∷ xs) e (suc i) l = small-at xs (neither (isLarge (x ∷ [])) _ (s
 
 module _ (f g : ℕ → ℕ) where
   abbrev pairs : ℕ → List ℕ
-  pairs n = concat (map (λ i. f i ∷ g i ∷ []) (upTo n))
+  pairs n = flatten (map (λ i. f i ∷ g i ∷ []) (upTo n))
 
   pairs-length : (n : ℕ) → length (pairs n) ≡ 2 * n
   pairs-length = spread _ 2 (λ i. refl)
 
   pairs-more : (n : ℕ) → pairs (n + 1) ≡ pairs n ++ (f n ∷ []) ++ (g n ∷ [])
-  pairs-more n = rw (add-one n) (concat-snoc _ n ∙ sym (append-snoc (pairs n) (f n) _))
+  pairs-more n = rw (add-one n) (flatten-snoc _ n ∙ sym (append-snoc (pairs n) (f n) _))
 
   pub pairs-large : (n : ℕ) → isLarge (pairs (n + 1)) ≡ isLarge (pairs n) || ltb 65535 (f n) || ltb 65535 (g n)
   pairs-large n = ap isLarge (pairs-more n) ∙ large-more _ (g n) ∙ ap (λ b. b || ltb 65535 (g n)) (large-more _ (f n))
@@ -160,7 +160,7 @@ module _ (w h : ℕ) (labels links table outputs : List ℕ) (n m : ℕ) where
 
   to-outputs : length (sizes ++ pixels ++ slots) ≡ 4 + 2 * (w * h) + 2 * n
   unfolding slotNumbers
-  to-outputs = omega (arith, length-append (sizes ++ pixels) slots, to-slots, pairs-length (λ k. slotNumber table k firstPixelAt) (λ k. slotNumber table k pixelCountAt) n)
+  to-outputs = omega (arith, length-append (sizes ++ pixels) slots, to-slots, pairs-length (λ k. slotNumber table k firstPixelPlace) (λ k. slotNumber table k pixelCountPlace) n)
 
   pub stored-length : m ≤ length outputs → 2 * length numbers ≡ 8 + 4 * (w * h) + 4 * n + 2 * m
   unfolding storedNumbers

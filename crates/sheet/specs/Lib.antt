@@ -1,2 +1,2 @@
 -- What the contracts of the library cite.
-pub mod Lengths
+pub mod Code

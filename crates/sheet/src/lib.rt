@@ -1,5 +1,5 @@
-// Rows of a picture, and the stored sheet. The buffers may be any, also such that no run made: every call answers the number of the first check
-// that failed, or 0, and a refused call changes nothing.
+// Rows of a picture, and the stored sheet. The buffers may be any, also such that no run made: every call answers the
+// number of the first check that failed, or 0, and a refused call changes nothing.
 mod stored;
 
 ghost use mathlib.Core.Path.{_≡_};
@@ -36,7 +36,8 @@ pub fn row(w: u32, h: u32, picture: &[u8], y: u32) -> &[u8]
     &picture[from..from + width]
 }
 
-// Stores the sheet in two-byte numbers, low byte first: w, h, n, m; label and link of each pixel; first pixel and count of each slot; the outputs.
+// Stores the sheet in two-byte numbers, low byte first: w, h, n, m; label and link of each pixel; first pixel and count
+// of each slot; the outputs.
 pub fn store(
     w: u32,
     h: u32,
@@ -48,7 +49,9 @@ pub fn store(
     n: u32,
     m: u32,
 ) -> u32
-    ensures { λ r. ⌜ record { answer = r; destination = now (destination .exit) } ≡ storeCall w h (now (labels .entry)) (now (links .entry)) (now (table .entry)) (now (outputs .entry)) (now (destination .entry)) n m ⌝ }
+    ensures { λ r. ⌜ record { answer = r; destination = now (destination .exit) }
+        ≡ storeCall w h (now (labels .entry)) (now (links .entry)) (now (table .entry)) (now (outputs .entry))
+        (now (destination .entry)) n m ⌝ }
 {
     let answer = stored::answer(w, h, labels, links, table, outputs, destination.len(), n, m);
     if answer != 0 {

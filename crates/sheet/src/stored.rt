@@ -6,9 +6,11 @@ ghost use Prim.Native.Nat.{_+_, _*_, _≤_};
 ghost use lib.Dec.{ltb};
 ghost use lib.ListN.{length, take};
 ghost use lib.Seq.{sets};
-ghost use Rattle.rules.specs.Refusals.{firstFailed, when, sizeChecks, badCounts, tableLength, outputsLength, storeAnswer};
+ghost use Rattle.rules.specs.Refusals.{firstFailed, refusal, sizeChecks, shortSheet, badCounts, storeAnswer};
 ghost use Rattle.rules.specs.Stored.{storedNumbers, storedBytes, isLarge, twoBytes, pixelNumbers, slotNumbers};
-ghost use Rattle.sheet.specs.Lengths.{CanStore};
+ghost use Rattle.rules.specs.Layout.{slotWidth};
+ghost use Rattle.sheet.specs.Code.Lengths.{CanStore};
+use image::layout;
 
 // The largest number of two bytes.
 const LARGEST: u32 = 65535;
@@ -29,13 +31,15 @@ fn large_pixels(labels: &[u32], links: &[u32], size: usize) -> bool
 
 // Whether a first pixel or a count of the first n slots takes more than two bytes.
 fn large_slots(table: &[u32], n: usize) -> bool
-    requires { ⌜ 21 * n ≤ length (now table) ⌝ }
+    requires { ⌜ slotWidth * n ≤ length (now table) ⌝ }
     ensures { λ r. ⌜ r ≡ isLarge (slotNumbers (now (table .entry)) n) ⌝ }
 {
     let mut large = false;
     let mut k = 0;
     while k < n {
-        large = large | (LARGEST < table[21 * k + 0]) | (LARGEST < table[21 * k + 1]);
+        large = large
+            | (LARGEST < table[layout::SLOT_WIDTH * k + layout::FIRST_PIXEL])
+            | (LARGEST < table[layout::SLOT_WIDTH * k + layout::PIXEL_COUNT]);
         k += 1;
     }
     large
@@ -66,8 +70,11 @@ fn put(destination: &mut [u8], at: usize, x: u32)
 
 // Writes label and link of each of the first size pixels.
 fn put_pixels(destination: &mut [u8], labels: &[u32], links: &[u32], size: usize)
-    requires { ⌜ (size ≤ length (now labels)) × (size ≤ length (now links)) × (8 + 4 * size ≤ length (now destination)) × (isLarge (pixelNumbers (now labels) (now links) size) ≡ false) ⌝ }
-    ensures { λ _. ⌜ now (destination .exit) ≡ sets (now (destination .entry)) 8 (storedBytes (pixelNumbers (now (labels .entry)) (now (links .entry)) size)) ⌝ }
+    requires { ⌜ (size ≤ length (now labels)) × (size ≤ length (now links)) × (8 + 4 * size ≤ length (now destination))
+        × (isLarge (pixelNumbers (now labels) (now links) size) ≡ false) ⌝ }
+    ensures { λ _. ⌜ now (destination .exit)
+        ≡ sets (now (destination .entry)) 8 (storedBytes (pixelNumbers (now (labels .entry)) (now (links .entry)) size))
+        ⌝ }
 {
     let mut p = 0;
     while p < size {
@@ -80,22 +87,34 @@ fn put_pixels(destination: &mut [u8], labels: &[u32], links: &[u32], size: usize
 
 // Writes first pixel and count of each of the first n slots from a place on.
 fn put_slots(destination: &mut [u8], from: usize, table: &[u32], n: usize)
-    requires { ⌜ (21 * n ≤ length (now table)) × (from + 4 * n ≤ length (now destination)) × (isLarge (slotNumbers (now table) n) ≡ false) ⌝ }
-    ensures { λ _. ⌜ now (destination .exit) ≡ sets (now (destination .entry)) from (storedBytes (slotNumbers (now (table .entry)) n)) ⌝ }
+    requires { ⌜ (slotWidth * n ≤ length (now table)) × (from + 4 * n ≤ length (now destination))
+        × (isLarge (slotNumbers (now table) n) ≡ false) ⌝ }
+    ensures { λ _. ⌜ now (destination .exit)
+        ≡ sets (now (destination .entry)) from (storedBytes (slotNumbers (now (table .entry)) n)) ⌝ }
 {
     let mut k = 0;
     while k < n {
         let at = from + 4 * k;
-        put(destination, at, table[21 * k + 0]);
-        put(destination, at + 2, table[21 * k + 1]);
+        put(
+            destination,
+            at,
+            table[layout::SLOT_WIDTH * k + layout::FIRST_PIXEL],
+        );
+        put(
+            destination,
+            at + 2,
+            table[layout::SLOT_WIDTH * k + layout::PIXEL_COUNT],
+        );
         k += 1;
     }
 }
 
 // Writes the first m outputs from a place on.
 fn put_outputs(destination: &mut [u8], from: usize, outputs: &[u32], m: usize)
-    requires { ⌜ (m ≤ length (now outputs)) × (from + 2 * m ≤ length (now destination)) × (isLarge (take m (now outputs)) ≡ false) ⌝ }
-    ensures { λ _. ⌜ now (destination .exit) ≡ sets (now (destination .entry)) from (storedBytes (take m (now (outputs .entry)))) ⌝ }
+    requires { ⌜ (m ≤ length (now outputs)) × (from + 2 * m ≤ length (now destination))
+        × (isLarge (take m (now outputs)) ≡ false) ⌝ }
+    ensures { λ _. ⌜ now (destination .exit)
+        ≡ sets (now (destination .entry)) from (storedBytes (take m (now (outputs .entry)))) ⌝ }
 {
     let mut i = 0;
     while i < m {
@@ -126,8 +145,11 @@ fn large(
     n: u32,
     m: u32,
 ) -> bool
-    requires { ⌜ CanStore (w * h) n m (length (now labels)) (length (now links)) (length (now table)) (length (now outputs)) ⌝ }
-    ensures { λ r. ⌜ r ≡ isLarge (storedNumbers w h (now (labels .entry)) (now (links .entry)) (now (table .entry)) (now (outputs .entry)) n m) ⌝ }
+    requires { ⌜ CanStore (w * h) n m (length (now labels)) (length (now links)) (length (now table))
+        (length (now outputs)) ⌝ }
+    ensures { λ r. ⌜ r
+        ≡ isLarge (storedNumbers w h
+        (now (labels .entry)) (now (links .entry)) (now (table .entry)) (now (outputs .entry)) n m) ⌝ }
 {
     (LARGEST < w)
         | (LARGEST < h)
@@ -136,26 +158,6 @@ fn large(
         | large_pixels(labels, links, (w * h) as usize)
         | large_slots(table, n as usize)
         | large_outputs(outputs, m as usize)
-}
-
-// Check 5 of storing: whether a buffer is too short, or a count too large.
-fn short(
-    size: usize,
-    labels: usize,
-    links: usize,
-    table: usize,
-    outputs: usize,
-    n: u32,
-    m: u32,
-) -> bool
-    requires { ⌜ size ≤ 65000 ⌝ }
-    ensures { λ r. ⌜ r ≡ (ltb labels size || ltb links size || ltb table (tableLength size) || ltb outputs (outputsLength size) || (ltb (size + 1) n || ltb (2 * size) m)) ⌝ }
-{
-    (labels < size)
-        | (links < size)
-        | (table < 21 * (size + 1))
-        | (outputs < 2 * size)
-        | ((size + 1 < n as usize) | (2 * size < m as usize))
 }
 
 // Checks 2, 3 and 5 of storing; labels, links, table and outputs are lengths.
@@ -169,14 +171,21 @@ fn buffers_answer(
     n: u32,
     m: u32,
 ) -> u32
-    ensures { λ r. ⌜ r ≡ firstFailed (sizeChecks w h ++ (when 5 (ltb labels (w * h) || ltb links (w * h) || ltb table (tableLength (w * h)) || ltb outputs (outputsLength (w * h)) || badCounts w h n m) ∷ [])) ⌝ }
+    ensures { λ r. ⌜ r
+        ≡ firstFailed
+        (sizeChecks w h
+        ++ (refusal 5
+        (ltb labels (w * h) || shortSheet (w * h) links table outputs || badCounts (w * h) n m) ∷ [])) ⌝ }
 {
     let answer = image::size_answer(w, h);
     if answer != 0 {
         return answer;
     }
-    let size = image::area(w, h) as usize;
-    if short(size, labels, links, table, outputs, n, m) {
+    let size = image::area(w, h) as u32;
+    if (labels < size as usize)
+        | layout::short(size, links, table, outputs)
+        | layout::bad_counts(size, n, m)
+    {
         return 5;
     }
     0
@@ -194,7 +203,13 @@ pub(crate) fn answer(
     n: u32,
     m: u32,
 ) -> u32
-    ensures { λ r. ⌜ r ≡ storeAnswer w h (length (now (labels .entry))) (length (now (links .entry))) (length (now (table .entry))) (length (now (outputs .entry))) destination n m (isLarge (storedNumbers w h (now (labels .entry)) (now (links .entry)) (now (table .entry)) (now (outputs .entry)) n m)) (2 * length (storedNumbers w h (now (labels .entry)) (now (links .entry)) (now (table .entry)) (now (outputs .entry)) n m)) ⌝ }
+    ensures { λ r. ⌜ r
+        ≡ storeAnswer w h (length (now (labels .entry))) (length (now (links .entry))) (length (now (table .entry)))
+        (length (now (outputs .entry))) destination n m
+        (isLarge (storedNumbers w h
+        (now (labels .entry)) (now (links .entry)) (now (table .entry)) (now (outputs .entry)) n m))
+        (2 * length (storedNumbers w h
+        (now (labels .entry)) (now (links .entry)) (now (table .entry)) (now (outputs .entry)) n m)) ⌝ }
 {
     let early = buffers_answer(
         w,
@@ -230,10 +245,15 @@ pub(crate) fn write(
     n: u32,
     m: u32,
 )
-    requires { ⌜ CanStore (w * h) n m (length (now labels)) (length (now links)) (length (now table)) (length (now outputs)) ⌝ }
+    requires { ⌜ CanStore (w * h) n m (length (now labels)) (length (now links)) (length (now table))
+        (length (now outputs)) ⌝ }
     requires { ⌜ isLarge (storedNumbers w h (now labels) (now links) (now table) (now outputs) n m) ≡ false ⌝ }
-    requires { ⌜ length (now destination) ≡ 2 * length (storedNumbers w h (now labels) (now links) (now table) (now outputs) n m) ⌝ }
-    ensures { λ _. ⌜ now (destination .exit) ≡ storedBytes (storedNumbers w h (now (labels .entry)) (now (links .entry)) (now (table .entry)) (now (outputs .entry)) n m) ⌝ }
+    requires { ⌜ length (now destination)
+        ≡ 2 * length (storedNumbers w h (now labels) (now links) (now table) (now outputs) n m) ⌝ }
+    ensures { λ _. ⌜ now (destination .exit)
+        ≡ storedBytes
+        (storedNumbers w h (now (labels .entry)) (now (links .entry)) (now (table .entry)) (now (outputs .entry)) n
+        m) ⌝ }
 {
     let size = (w * h) as usize;
     put_sizes(destination, w, h, n, m);

@@ -1,15 +1,15 @@
 use mathlib.Core.Path.{_≡_, sym, _∙_}
 use mathlib.Core.Bool.{_||_}
-use Prim.Native.Nat.{ℕ, _+_, _*_}
+use Prim.Native.Nat.{ℕ, _*_}
 use native.Mathlib.Omega.{arith}
 use borrow.Author.Needs.{needs}
 use borrow.Author.Tests.{ne-eqb, eqb-true, not-false, ltb-false}
 use lib.Dec.{eqb, ltb}
 use lib.ListN.{length}
-use Rattle.rules.specs.Refusals.{limit, tableLength, outputsLength, badCounts, notFourEach, paintAnswer}
+use Rattle.rules.specs.Refusals.{limit, shortSheet, badCounts, notFourEach, paintAnswer}
 use Rattle.rules.specs.Calls.{paintCall}
-use Rattle.rules.proofs.Accepted.{passed, neither, good-size}
-use Rattle.container.specs.Lengths.{CanPaint}
+use Rattle.rules.proofs.Accepted.{passed, neither, long-sheet, good-counts, good-size}
+use Rattle.container.specs.Code.Lengths.{CanPaint}
 use Rattle.container.proofs.to_color_image.Statement.{statement}
 use Rattle.container.proofs.to_color_image.Tie as tie
 
@@ -19,18 +19,17 @@ unfolding paintAnswer
 can-paint w h links table outputs picture n m e =
     let c2 = passed 1 (eqb w 0 || eqb h 0) _ e in
     let c3 = passed 2 (ltb limit (w * h)) _ (c2 .1) in
-    let c5 = passed 4 (ltb links (w * h) || ltb table (tableLength (w * h)) || ltb outputs (outputsLength (w * h)) || badCounts w h n m) _ (c3 .1) in
+    let c5 = passed 4 (shortSheet (w * h) links table outputs || badCounts (w * h) n m) _ (c3 .1) in
     let c6 = passed 5 (notFourEach w h picture) 0 (c5 .1) in
-    let l3 = neither _ (badCounts w h n m) (c5 .0) in
-    let l2 = neither _ (ltb outputs (outputsLength (w * h))) (l3 .0) in
-    let l1 = neither (ltb links (w * h)) (ltb table (tableLength (w * h))) (l2 .0) in
-    let k = neither (ltb (w * h + 1) n) (ltb (2 * (w * h)) m) (l3 .1) in
+    let l = neither (shortSheet (w * h) links table outputs) (badCounts (w * h) n m) (c5 .0) in
+    let long = long-sheet (w * h) links table outputs (l .0) in
+    let counts = good-counts (w * h) n m (l .1) in
     record {
       some = good-size w h (c2 .0) (c3 .0) .some;
       small = ltb-false limit (w * h) (c3 .0);
-      links-fit = ltb-false links (w * h) (l1 .0);
-      table-fits = omega (arith, ltb-false table (tableLength (w * h)) (l1 .1), ltb-false (w * h + 1) n (k .0));
-      outputs-fit = omega (arith, ltb-false outputs (outputsLength (w * h)) (l2 .1), ltb-false (2 * (w * h)) m (k .1));
+      links-fit = long .0;
+      table-fits = omega (arith, long .1, counts .0);
+      outputs-fit = omega (arith, long .2, counts .1);
       picture-fits = eqb-true _ _ (not-false _ (c6 .0));
     }
 

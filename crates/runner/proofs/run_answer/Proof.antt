@@ -56,6 +56,5 @@ pub run-answer-spec : {M : Type 1} → statement M
 run-answer-spec =
     tie.close
     (tie.spec
-    (search needs) returns (search needs) returns-2 (search needs) (λ c. omega (arith, c .area .ensures, small (c .before))) returns-3
-    (λ c κs. omega (arith, c .before .area .ensures, small (c .before .before)))
-    returns-4 returns-5)
+    (search needs) returns (search needs) returns-2 (search needs) (λ c. omega (arith, c .area .ensures, small (c .before)))
+    (search needs) (λ c. omega (arith, c .area .ensures, small (c .before))) returns-3 (search needs) returns-4 returns-5)

@@ -5,7 +5,7 @@ use native.Mathlib.Omega.{arith}
 use borrow.Author.Needs.{needs}
 use borrow.Author.Tests.{ne-eqb}
 use lib.ListN.{length}
-use Rattle.rules.specs.Refusals.{rowAnswer}
+use Rattle.rules.specs.Refusals.{limit, rowAnswer}
 use Rattle.rules.specs.Calls.{rowCall}
 use Rattle.sheet.proofs.Accepted.{row-accepted}
 use Rattle.sheet.proofs.row.Statement.{statement}
@@ -20,7 +20,7 @@ passed : (c : tie.Else1) → (let a = c .before .before .before .args in rowAnsw
 passed c = sym (c .before .row-check .ensures) ∙ c .if1 .left
 
 -- the row ends in the picture, which is small
-within : (c : tie.Else1) → (let a = c .before .before .before .args in (4 * a .w * a .y + 4 * a .w ≤ length (a .picture .now)) × (length (a .picture .now) ≤ 260000))
+within : (c : tie.Else1) → (let a = c .before .before .before .args in (4 * a .w * a .y + 4 * a .w ≤ length (a .picture .now)) × (length (a .picture .now) ≤ 4 * limit))
 within c =
     let a = c .before .before .before .args in
     let r = row-accepted (a .w) (a .h) (length (a .picture .now)) (a .y) (passed c) in

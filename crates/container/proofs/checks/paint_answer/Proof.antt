@@ -22,25 +22,27 @@ small c = sized-small _ _ (sized-zero c)
 returns-2 : tie.Need-returns-2
 unfolding paintAnswer
 returns-2 c =
-    let s = c .before .before in
-    rw (sized, sized-zero (s .before), ← s .area .ensures, sym (c .before .short .ensures) ∙ c .if2 .taken)
+    let s = c .before .before .before in
+    rw (sized, sized-zero (s .before), ← s .area .ensures, ← c .before .before .short .ensures, ← c .before .bad-counts .ensures, c .if2 .taken)
 
 returns-3 : tie.Need-returns-3
 unfolding paintAnswer
 returns-3 c =
-    let s = c .before .before .before in
-    rw (sized, sized-zero (s .before), ← s .area .ensures, sym (c .before .before .short .ensures) ∙ c .before .if2 .left, ne-eqb _ _ (c .if3 .taken))
+    let e = c .before in
+    let s = e .before .before .before in
+    rw (sized, sized-zero (s .before), ← s .area .ensures, ← e .before .before .short .ensures, ← e .before .bad-counts .ensures, e .if2 .left, ne-eqb _ _ (c .if3 .taken))
 
 returns-4 : tie.Need-returns-4
 unfolding paintAnswer
 returns-4 c =
-    let s = c .before .before .before in
-    rw (sized, sized-zero (s .before), ← s .area .ensures, sym (c .before .before .short .ensures) ∙ c .before .if2 .left, eq-eqb _ _ (c .if3 .left))
+    let e = c .before in
+    let s = e .before .before .before in
+    rw (sized, sized-zero (s .before), ← s .area .ensures, ← e .before .before .short .ensures, ← e .before .bad-counts .ensures, e .if2 .left, eq-eqb _ _ (c .if3 .left))
 
 pub paint-answer-spec : {M : Type 1} → statement M
 paint-answer-spec =
     tie.close
     (tie.spec
-    (search needs) returns (search needs) (λ c κs. omega (arith, c .area .ensures, small (c .before))) returns-2
-    (λ c. let s = c .before .before in omega (arith, s .area .ensures, small (s .before)))
+    (search needs) returns (search needs) (λ c. omega (arith, c .area .ensures, small (c .before))) (search needs) (search needs) returns-2
+    (search needs) (λ c. let s = c .before .before .before in omega (arith, s .area .ensures, small (s .before)))
     returns-3 returns-4)

@@ -4,7 +4,7 @@ use native.Mathlib.Omega.{arith}
 use lib.ListN.{length}
 use Rattle.rules.proofs.Walks.{step}
 use Rattle.color.specs.Colors.{colorOf}
-use Rattle.container.specs.Stretch.{paintAlong}
+use Rattle.container.specs.Code.Stretch.{paintAlong}
 use Rattle.container.proofs.Stretches.{Going, going-starts, going-turn, going-ends, both-none, both-turn}
 use Rattle.container.proofs.halves.paint_both_and_look.Statement.{statement}
 use Rattle.container.proofs.halves.paint_both_and_look.Tie as tie

@@ -6,8 +6,8 @@ use lib.Dec.{T}
 use Rattle.rules.specs.Paint.{reads}
 use Rattle.rules.proofs.Walks.{step}
 use Rattle.color.specs.Colors.{colorOf}
-use Rattle.container.specs.Leads.{Leads}
-use Rattle.container.specs.Stretch.{paintAlong}
+use Rattle.container.specs.Code.Leads.{Leads}
+use Rattle.container.specs.Code.Stretch.{paintAlong}
 use Rattle.container.proofs.Leads.{leads-on}
 use Rattle.container.proofs.Stretches.{reads-part, leads-rest, halves-end, halves-painted, along-more}
 use Rattle.container.proofs.halves.paint_halves.Statement.{statement}

@@ -2,7 +2,7 @@ use mathlib.Core.Path.{_≡_, sym, ap, _∙_}
 use borrow.Author.Needs.{needs}
 use borrow.Author.Tests.{lt-ltb, le-ltb, le-leb, lt-leb, not-true, not-false}
 use Rattle.rules.specs.Color.{hasAverage}
-use Rattle.rules.specs.Paint.{residueOf, entryAnswer}
+use Rattle.rules.specs.Paint.{slotResidue, entryAnswer}
 use Rattle.container.proofs.paint.entry_answer.Statement.{statement}
 use Rattle.container.proofs.paint.entry_answer.Tie as tie
 
@@ -11,7 +11,7 @@ unfolding entryAnswer
 returns c = rw (le-ltb _ _ (c .if1 .taken))
 
 -- what was answered is whether the residue has an average
-average : (c : tie.After-has-average) → (let a = c .before .before .before .before .before .args in hasAverage (residueOf (a .table .now) (a .k)) ≡ c .has-average .result)
+average : (c : tie.After-has-average) → (let a = c .before .before .before .before .before .args in hasAverage (slotResidue (a .table .now) (a .k)) ≡ c .has-average .result)
 average c = sym (c .has-average .ensures ∙ ap hasAverage (c .before .residue .ensures))
 
 returns-2 : tie.Need-returns-2

@@ -4,11 +4,12 @@ use native.Mathlib.Omega.{arith}
 use borrow.Author.Needs.{needs}
 use lib.ListN.{length, getD}
 use Rattle.rules.specs.Paint.{slotNumber}
+use Rattle.rules.specs.Layout.{slotWidth}
 use Rattle.container.proofs.paint.first_half.Statement.{statement}
 use Rattle.container.proofs.paint.first_half.Tie as tie
 
 -- the slot is in the table
-slot : (c : tie.Else1) → (let a = c .before .args in 21 * getD (a .outputs .now) (a .left - 1) 0 + 21 ≤ length (a .table .now))
+slot : (c : tie.Else1) → (let a = c .before .args in slotWidth * getD (a .outputs .now) (a .left - 1) 0 + slotWidth ≤ length (a .table .now))
 slot c = c .before .pre .1 (omega arith)
 
 returns : tie.Need-returns

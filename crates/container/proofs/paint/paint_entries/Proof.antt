@@ -6,8 +6,9 @@ use lib.Dec.{T}
 use lib.ListN.{length, getD}
 use Rattle.rules.specs.Base.{timesBack}
 use Rattle.rules.specs.Paint.{reads, slotNumber, entriesAnswer, paintSlot}
-use Rattle.container.specs.Leads.{Leads}
-use Rattle.container.specs.Stretch.{FirstHalf}
+use Rattle.rules.specs.Layout.{slotWidth, firstPixelPlace, pixelCountPlace}
+use Rattle.container.specs.Code.Leads.{Leads}
+use Rattle.container.specs.Code.Stretch.{FirstHalf}
 use Rattle.container.proofs.Entries.{back-turn, back-none, entries-pass, entry-passed}
 use Rattle.container.proofs.Stretches.{reads-part}
 use Rattle.container.proofs.paint.paint_entries.Statement.{statement}
@@ -15,7 +16,7 @@ use Rattle.container.proofs.paint.paint_entries.Tie as tie
 
 -- mid is the middle of the list of entry left - 1, if there is one
 abbrev Middle : ℕ → List ℕ → List ℕ → List ℕ → ℕ → ℕ → Type 0
-Middle size links table outputs left mid = 0 < left → (let k = getD outputs (left - 1) 0 in Leads size links (slotNumber table k 0) (slotNumber table k 1 / 2) mid)
+Middle size links table outputs left mid = 0 < left → (let k = getD outputs (left - 1) 0 in Leads size links (slotNumber table k firstPixelPlace) (slotNumber table k pixelCountPlace / 2) mid)
 
 -- the entries that are left give what is wanted
 abbrev Inv-loop : tie.InvT-loop
@@ -29,7 +30,7 @@ abbrev μ-loop : tie.MeasureT-loop
 μ-loop links table outputs picture₀ size n m mid₀ left₀ picture mid left = left
 
 module _ (size n m : ℕ) (links table outputs : List ℕ) (e : entriesAnswer size n links table outputs m ≡ 0) where
-  slot-within : (left : ℕ) → left ≤ m → 21 * n ≤ length table → 0 < left → 21 * getD outputs (left - 1) 0 + 21 ≤ length table
+  slot-within : (left : ℕ) → left ≤ m → slotWidth * n ≤ length table → 0 < left → slotWidth * getD outputs (left - 1) 0 + slotWidth ≤ length table
   slot-within left h t l = omega (arith, entry-passed size n links table _ (entries-pass size n links table outputs m e (left - 1) (omega arith)) .slot)
 
   half-reads : (left first count : ℕ) → left ≤ m → FirstHalf table outputs left first count → T (reads size links first count)
@@ -38,7 +39,7 @@ module _ (size n m : ℕ) (links table outputs : List ℕ) (e : entriesAnswer si
       let k = getD outputs (suc i - 1) 0 in
       let p = entry-passed size n links table k (entries-pass size n links table outputs m e (suc i - 1) (omega arith)) in
       rw (f .from (omega arith), f .half (omega arith))
-      (reads-part size links (slotNumber table k 1) 0 (slotNumber table k 1 / 2) (slotNumber table k 0) (slotNumber table k 0) (omega arith) refl (p .listed))
+      (reads-part size links (slotNumber table k pixelCountPlace) 0 (slotNumber table k pixelCountPlace / 2) (slotNumber table k firstPixelPlace) (slotNumber table k firstPixelPlace) (omega arith) refl (p .listed))
 
 half-ends : (size : ℕ) (links table outputs : List ℕ) (left first count mid : ℕ) → FirstHalf table outputs left first count → Leads size links first count mid → Middle size links table outputs left mid
 half-ends size links table outputs left first count mid f e l = rw (f .from l, f .half l) at e
@@ -62,8 +63,8 @@ first-half-requires-2 c κs =
     let v = c .before .loop .inv in
     (omega (arith, v .0, p .0 .outputs-fit), slot-within _ _ _ _ _ _ (p .1) _ (omega (arith, v .0)) (p .0 .table-fits))
 
-paint-slot-requires : tie.Need-paint-slot-requires Inv-loop μ-loop
-paint-slot-requires c κs =
+render-to-color-image-requires : tie.Need-render-to-color-image-requires Inv-loop μ-loop
+render-to-color-image-requires c κs =
     let h = c .before .before in
     let t = h .before in
     let v = t .before .loop .inv in
@@ -83,9 +84,9 @@ loop-again c =
     let t = h .before in
     let v = t .before .loop .inv in (
       omega (arith, v .0),
-      omega (arith, v .1, p .paint-slot .kept .1 .1 .0),
-      half-ends _ _ _ _ _ _ _ _ (h .first-half2 .ensures) (p .paint-slot .ensures .0),
-      rw (p .paint-slot .ensures .1) (rw (back-turn _ _ _ (t .loop-test .taken)) at (v .3)),
+      omega (arith, v .1, p .render-to-color-image .kept .1 .1 .0),
+      half-ends _ _ _ _ _ _ _ _ (h .first-half2 .ensures) (p .render-to-color-image .ensures .0),
+      rw (p .render-to-color-image .ensures .1) (rw (back-turn _ _ _ (t .loop-test .taken)) at (v .3)),
     )
 
 pub paint-entries-spec : {M : Type 1} → statement M
@@ -103,7 +104,7 @@ paint-entries-spec =
     (omega arith)
     (omega arith)
     (omega arith)
-    paint-slot-requires
+    render-to-color-image-requires
     (omega arith)
     (omega arith)
     loop-again

@@ -1,32 +1,12 @@
-use mathlib.Core.Path.{refl}
+use native.Mathlib.Omega.{arith}
 use borrow.Author.Needs.{needs}
-use Rattle.rules.specs.Paint.{slotNumber, fiveFrom}
-use Rattle.rules.proofs.Fits.{slot-fits, slot-offset, slot-in}
+use Rattle.rules.specs.Layout.{residuePlace}
+use Rattle.color.proofs.Five.{five-read}
 use Rattle.container.proofs.paint.residue.Statement.{statement}
 use Rattle.container.proofs.paint.residue.Tie as tie
 
 returns : tie.Need-returns
-unfolding fiveFrom slotNumber
-returns c = refl
+returns c = let s = c .before .before in five-read (s .args .table .now) (s .args .k) residuePlace (s .pre) (omega arith) (c .sum-in .ensures .0)
 
 pub residue-spec : {M : Type 1} → statement M
-residue-spec =
-    tie.close
-    (tie.spec
-    (search needs)
-    (λ c. slot-fits (c .fits .k) _ tt)
-    (λ c. slot-offset (c .fits .k) _ tt)
-    (λ c. slot-in _ (c .before .pre) _ tt)
-    (λ c. slot-fits (c .before .fits .k) _ tt)
-    (λ c. slot-offset (c .before .fits .k) _ tt)
-    (λ c. slot-in _ (c .before .before .pre) _ tt)
-    (λ c. slot-fits (c .before .before .fits .k) _ tt)
-    (λ c. slot-offset (c .before .before .fits .k) _ tt)
-    (λ c. slot-in _ (c .before .before .before .pre) _ tt)
-    (λ c. slot-fits (c .before .before .before .fits .k) _ tt)
-    (λ c. slot-offset (c .before .before .before .fits .k) _ tt)
-    (λ c. slot-in _ (c .before .before .before .before .pre) _ tt)
-    (λ c. slot-fits (c .before .before .before .before .fits .k) _ tt)
-    (λ c. slot-offset (c .before .before .before .before .fits .k) _ tt)
-    (λ c. slot-in _ (c .before .before .before .before .before .pre) _ tt)
-    returns)
+residue-spec = tie.close (tie.spec (search needs) (search needs) (search needs) returns)

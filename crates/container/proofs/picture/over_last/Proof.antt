@@ -5,7 +5,7 @@ use borrow.Author.Needs.{needs}
 use borrow.Author.Tests.{ne-eqb}
 use lib.ListN.{getD}
 use Rattle.rules.specs.Paint.{entriesAnswer, painting}
-use Rattle.container.specs.Lengths.{CanPaint}
+use Rattle.container.specs.Code.Lengths.{CanPaint}
 use Rattle.container.proofs.Entries.{Passed, entry-passed, entries-pass, entries-front}
 use Rattle.container.proofs.Pictures as pictures
 use Rattle.container.proofs.picture.over_last.Statement.{statement}

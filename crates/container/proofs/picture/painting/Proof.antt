@@ -3,8 +3,8 @@ use native.Mathlib.Omega.{arith}
 use borrow.Author.Needs.{needs}
 use borrow.Author.Tests.{not-false}
 use lib.ListN.{getD}
-use Rattle.container.specs.Quick.{NumbersPass}
-use Rattle.container.specs.Covered.{Whole}
+use Rattle.container.specs.Code.Quick.{NumbersPass}
+use Rattle.container.specs.Code.Covered.{Whole}
 use Rattle.container.proofs.Pictures.{whole-passes}
 use Rattle.container.proofs.picture.painting.Statement.{statement}
 use Rattle.container.proofs.picture.painting.Tie as tie

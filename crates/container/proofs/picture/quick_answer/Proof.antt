@@ -4,7 +4,7 @@ use native.Mathlib.Decide.{decLt}
 use native.Mathlib.Omega.{arith}
 use borrow.Author.Needs.{needs}
 use lib.ListN.{getD}
-use Rattle.container.specs.Quick.{ListPasses}
+use Rattle.container.specs.Code.Quick.{ListPasses}
 use Rattle.container.proofs.Passes.{quick-zero}
 use Rattle.container.proofs.picture.quick_answer.Statement.{statement}
 use Rattle.container.proofs.picture.quick_answer.Tie as tie

@@ -7,15 +7,16 @@ use mir.Val.{Fits}
 use lib.Dec.{eqb, ltb}
 use lib.ListN.{length, getD}
 use Rattle.rules.specs.Paint.{slotNumber}
-use Rattle.container.specs.Quick.{Filled}
+use Rattle.container.specs.Code.Quick.{LanePasses}
 use Rattle.rules.proofs.Facts.{both-true}
+use Rattle.rules.specs.Layout.{slotWidth}
 use Rattle.container.proofs.Passes.{none-left, pass-more}
 use Rattle.container.proofs.quick.filled.Statement.{statement}
 use Rattle.container.proofs.quick.filled.Tie as tie
 
 -- what has been taken
 abbrev Inv-loop : tie.InvT-loop
-Inv-loop table outputs a l m at₀ count₀ left₀ at count left = (left ≤ m) × Filled table outputs a l m (record { at = at; count = count; left = left })
+Inv-loop table outputs a l m at₀ count₀ left₀ at count left = (left ≤ m) × LanePasses table outputs a l m (record { at = at; count = count; left = left })
 
 abbrev μ-loop : tie.MeasureT-loop
 μ-loop table outputs a l m at₀ count₀ left₀ at count left = left
@@ -25,7 +26,7 @@ tested : (c : tie.In-loop Inv-loop μ-loop) → (let t = c .before .loop in (t .
 tested c = let t = c .before .loop in let b = both-true (eqb (t .count) 0) (ltb 0 (t .left)) (c .loop-test .taken) in (eqb-true _ _ (b .0), ltb-true _ _ (b .1))
 
 -- its slot is in the table
-fits : (c : tie.In-loop Inv-loop μ-loop) → (let a = c .before .before .args in 21 * getD (a .outputs .now) (c .before .loop .left - 1) 0 + 21 ≤ length (a .table .now))
+fits : (c : tie.In-loop Inv-loop μ-loop) → (let a = c .before .before .args in slotWidth * getD (a .outputs .now) (c .before .loop .left - 1) 0 + slotWidth ≤ length (a .table .now))
 fits c = c .before .before .pre .slots (c .before .loop .left - 1) (omega (arith, tested c .1, c .before .loop .inv .0))
 
 small : (c : tie.After-shared-slice-known Inv-loop μ-loop) → Fits w32 (getD (c .before .before .before .args .outputs .now) (c .before .before .loop .left - 1) 0)

@@ -3,7 +3,7 @@ use Prim.Native.Nat.{_≤_}
 use native.Mathlib.Omega.{arith}
 use borrow.Author.Tests.{eqb-true}
 use lib.Dec.{eqb}
-use Rattle.container.specs.Quick.{EntriesFit, Held}
+use Rattle.container.specs.Code.Quick.{EntriesFit, LanesPass}
 use Rattle.rules.proofs.Facts.{both-true}
 use Rattle.container.proofs.Passes.{holds, entries-fit, fewer-fit}
 use Rattle.container.proofs.quick.lists_pass.Statement.{statement}
@@ -11,7 +11,7 @@ use Rattle.container.proofs.quick.lists_pass.Tie as tie
 
 -- the rests of the lanes decide on what was taken
 abbrev Inv-loop : tie.InvT-loop
-Inv-loop links table outputs size n m before₀ x₀ before x = (x .left ≤ m) × Held size links table outputs m x
+Inv-loop links table outputs size n m before₀ x₀ before x = (x .left ≤ m) × LanesPass size links table outputs m x
 
 abbrev μ-loop : tie.MeasureT-loop
 μ-loop links table outputs size n m before₀ x₀ before x = before

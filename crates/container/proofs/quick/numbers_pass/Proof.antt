@@ -3,7 +3,7 @@ use native.Mathlib.Omega.{arith}
 use borrow.Author.Count.{below-more}
 use borrow.Author.Tests.{not-false}
 use lib.ListN.{getD}
-use Rattle.container.specs.Quick.{NumbersPass}
+use Rattle.container.specs.Code.Quick.{NumbersPass}
 use Rattle.container.proofs.Passes.{never}
 use Rattle.container.proofs.quick.numbers_pass.Statement.{statement}
 use Rattle.container.proofs.quick.numbers_pass.Tie as tie

@@ -7,7 +7,7 @@ use borrow.Author.Needs.{needs}
 use borrow.Author.Tests.{eqb-true}
 use lib.Dec.{T, eqb}
 use Rattle.rules.proofs.Facts.{both-true}
-use Rattle.container.specs.Leads.{Leads}
+use Rattle.container.specs.Code.Leads.{Leads}
 use Rattle.container.proofs.Leads.{leads-on}
 use Rattle.container.proofs.whole.is_whole.Statement.{statement}
 use Rattle.container.proofs.whole.is_whole.Tie as tie

@@ -1,7 +1,7 @@
 use mathlib.Core.Path.{refl}
 use Prim.Native.Nat.{_-_, _≤_, _<_}
 use native.Mathlib.Omega.{arith}
-use Rattle.container.specs.Leads.{Leads}
+use Rattle.container.specs.Code.Leads.{Leads}
 use Rattle.container.proofs.Leads.{leads-more}
 use Rattle.container.proofs.whole.walk_one.Statement.{statement}
 use Rattle.container.proofs.whole.walk_one.Tie as tie
@@ -15,7 +15,7 @@ abbrev μ-loop : tie.MeasureT-loop
 -- where the walk does not stop, it is at a pixel
 on : (c : tie.Else1 Inv-loop μ-loop) → (let l = c .before .before .before .loop in let size = c .before .before .before .before .before .args .size in (0 < l .x) × (l .x ≤ size))
 on c =
-    c .before .stops .ensures (c .if1 .left)
+    c .before .walk-ends .ensures (c .if1 .left)
 
 loop-again : tie.Need-loop-again Inv-loop μ-loop
 loop-again c =

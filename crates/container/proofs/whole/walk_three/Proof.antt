@@ -2,7 +2,7 @@ use mathlib.Core.Path.{refl}
 use Prim.Native.Nat.{_-_, _≤_, _<_}
 use native.Mathlib.Omega.{arith}
 use Rattle.rules.proofs.Accepted.{neither}
-use Rattle.container.specs.Leads.{Leads}
+use Rattle.container.specs.Code.Leads.{Leads}
 use Rattle.container.proofs.Leads.{leads-more}
 use Rattle.container.proofs.whole.walk_three.Statement.{statement}
 use Rattle.container.proofs.whole.walk_three.Tie as tie
@@ -18,7 +18,7 @@ on : (c : tie.Else1 Inv-loop μ-loop) → (let l = c .before .before .before .be
 on c =
     let n = neither _ _ (c .if1 .left) in
     let m = neither _ _ (n .0) in
-    (c .before .before .before .stops .ensures (m .0), c .before .before .stops2 .ensures (m .1), c .before .stops3 .ensures (n .1))
+    (c .before .before .before .walk-ends .ensures (m .0), c .before .before .walk-ends2 .ensures (m .1), c .before .walk-ends3 .ensures (n .1))
 
 loop-again : tie.Need-loop-again Inv-loop μ-loop
 loop-again c =

@@ -2,7 +2,7 @@ use mathlib.Core.Path.{refl}
 use Prim.Native.Nat.{_-_, _≤_, _<_}
 use native.Mathlib.Omega.{arith}
 use Rattle.rules.proofs.Accepted.{neither}
-use Rattle.container.specs.Leads.{Leads}
+use Rattle.container.specs.Code.Leads.{Leads}
 use Rattle.container.proofs.Leads.{leads-more}
 use Rattle.container.proofs.whole.walk_two.Statement.{statement}
 use Rattle.container.proofs.whole.walk_two.Tie as tie
@@ -17,7 +17,7 @@ abbrev μ-loop : tie.MeasureT-loop
 on : (c : tie.Else1 Inv-loop μ-loop) → (let l = c .before .before .before .before .loop in let size = c .before .before .before .before .before .before .args .size in ((0 < l .x) × (l .x ≤ size)) × ((0 < l .y) × (l .y ≤ size)))
 on c =
     let n = neither _ _ (c .if1 .left) in
-    (c .before .before .stops .ensures (n .0), c .before .stops2 .ensures (n .1))
+    (c .before .before .walk-ends .ensures (n .0), c .before .walk-ends2 .ensures (n .1))
 
 loop-again : tie.Need-loop-again Inv-loop μ-loop
 loop-again c =

@@ -3,13 +3,14 @@ use mathlib.Core.List.{List}
 use Prim.Native.Nat.{ℕ, _+_, _≤_, _<_}
 use native.Mathlib.Omega.{arith}
 use borrow.Author.Needs.{needs}
-use Rattle.container.specs.Leads.{Leads}
+use Rattle.rules.specs.Refusals.{limit}
+use Rattle.container.specs.Code.Leads.{Leads}
 use Rattle.container.proofs.Leads.{leads-on, leads-more}
 use Rattle.container.proofs.whole.walks.Statement.{statement}
 use Rattle.container.proofs.whole.walks.Tie as tie
 
 -- no walk goes more than size links
-few : (c : tie.After-walk-one3) → (let size = c .before .before .before .before .before .before .before .before .before .before .args .size in (0 < size) × (size ≤ 65000) × (c .before .before .before .before .before .before .walk-three .result .moved ≤ size) × (c .before .before .before .before .before .walk-two .result .moved ≤ size) × (c .before .before .before .before .walk-two2 .result .moved ≤ size) × (c .before .before .before .walk-two3 .result .moved ≤ size) × (c .before .before .walk-one .result .moved ≤ size) × (c .before .walk-one2 .result .moved ≤ size) × (c .walk-one3 .result .moved ≤ size))
+few : (c : tie.After-walk-one3) → (let size = c .before .before .before .before .before .before .before .before .before .before .args .size in (0 < size) × (size ≤ limit) × (c .before .before .before .before .before .before .walk-three .result .moved ≤ size) × (c .before .before .before .before .before .walk-two .result .moved ≤ size) × (c .before .before .before .before .walk-two2 .result .moved ≤ size) × (c .before .before .before .walk-two3 .result .moved ≤ size) × (c .before .before .walk-one .result .moved ≤ size) × (c .before .walk-one2 .result .moved ≤ size) × (c .walk-one3 .result .moved ≤ size))
 few c =
     let p = c .before .before .before .before .before .before .before .before .before .before .pre in
     (omega arith, p .1, c .before .before .before .before .before .before .walk-three .ensures .0, c .before .before .before .before .before .walk-two .ensures .0, c .before .before .before .before .walk-two2 .ensures .0, c .before .before .before .walk-two3 .ensures .0, c .before .before .walk-one .ensures .0, c .before .walk-one2 .ensures .0, c .walk-one3 .ensures .0)

@@ -2,13 +2,14 @@ use mathlib.Core.Path.{_≡_, refl, ap, _∙_}
 use mathlib.Core.List.{List}
 use Prim.Native.Nat.{ℕ, _+_, _≤_, _<_}
 use lib.ListN.{length, getD, set, length-set}
-use Rattle.rules.specs.Color.{Color, one}
+use Rattle.rules.specs.Color.{Color, sumOfOne}
 use Rattle.rules.specs.State.{Cluster, withPixel, pixelRect}
+use Rattle.rules.specs.Code.Bounds.{countBound}
 use Rattle.color.specs.Colors.{sumOf}
 use Rattle.runner.specs.declared.slot.Head.{Head}
-use Rattle.runner.specs.Slots.{Adds, headAt, headOf, savedHead}
-use Rattle.runner.specs.Rep.{linkAfter}
-use Rattle.runner.specs.Ops.{Added, CanAdd}
+use Rattle.runner.specs.Code.Slots.{Adds, headAt, headOf, savedHead}
+use Rattle.runner.specs.Code.Rep.{linkAfter}
+use Rattle.runner.specs.Code.Ops.{Added, CanAdd}
 use Rattle.runner.proofs.Widths.{offset-fits, next-fits}
 use Rattle.runner.proofs.builder.add.Statement.{statement}
 use Rattle.runner.proofs.builder.add.Tie as tie
@@ -19,7 +20,7 @@ module _ {k i x y : ℕ} {c : Color} {L K B E : List ℕ} {s : Head} (loaded : s
   asks-link : CanAdd k i x y c L K B E → 0 < s .count → (0 < getD E k 0) × (getD E k 0 ≤ length K)
   asks-link p = rw loaded (p .room .tail)
 
-  asks-pixel : CanAdd k i x y c L K B E → (i < 2000000) × (x < 2000000) × (y < 2000000) × (s .count < 2000000) × Adds (sumOf (s .sum)) (one c)
+  asks-pixel : CanAdd k i x y c L K B E → (i < countBound) × (x < countBound) × (y < countBound) × (s .count < countBound) × Adds (sumOf (s .sum)) (sumOfOne c)
   asks-pixel p = rw loaded (p .small .0, p .small .1, p .small .2, p .room .count, p .sum)
 
   -- the pixel is added

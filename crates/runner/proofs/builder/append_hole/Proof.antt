@@ -3,14 +3,16 @@ use mathlib.Core.List.{List}
 use Prim.Native.Nat.{ℕ, _+_, _-_, _*_, _≤_, _<_}
 use lib.ListN.{length, getD, set, length-set}
 use Rattle.rules.proofs.Fits.{slot-fits, slot-offset, slot-in}
-use Rattle.runner.specs.Ops.{CanHollow}
+use Rattle.rules.specs.Layout.{slotWidth, numHolesPlace}
+use Rattle.rules.specs.Code.Bounds.{countBound}
+use Rattle.runner.specs.Code.Ops.{CanHollow}
 use Rattle.runner.proofs.Widths.{slot-begins, next-fits, sum-fits, sum-widens, sum-offset}
 use Rattle.runner.proofs.builder.append_hole.Statement.{statement}
 use Rattle.runner.proofs.builder.append_hole.Tie as tie
 
 -- what linking asks, when the number of holes is stored
 asks-link : {room f t : ℕ} {B E : List ℕ} (j v : ℕ) → CanHollow room f t B E
-    → (21 * t + 21 ≤ length (set B j v)) × (f < 2000000) × (0 < getD B (21 * t + 18) 0 → (0 < getD E (room + t) 0) × (21 * (getD E (room + t) 0 - 1) + 21 ≤ length (set B j v)))
+    → (slotWidth * t + slotWidth ≤ length (set B j v)) × (f < countBound) × (0 < getD B (slotWidth * t + numHolesPlace) 0 → (0 < getD E (room + t) 0) × (slotWidth * (getD E (room + t) 0 - 1) + slotWidth ≤ length (set B j v)))
 asks-link j v p = simp length-set (p .slot, p .small .1, λ some. (p .child some .0, p .child some .2))
 
 -- where the numbers are stored

@@ -3,7 +3,7 @@ use native.Mathlib.Omega.{arith}
 use borrow.Author.Needs.{needs}
 use borrow.Author.Tests.{eq-eqb, ne-eqb}
 use lib.ListN.{length}
-use Rattle.runner.specs.Rep.{linkAfter}
+use Rattle.runner.specs.Code.Rep.{linkAfter}
 use Rattle.runner.proofs.builder.link_after.Statement.{statement}
 use Rattle.runner.proofs.builder.link_after.Tie as tie
 

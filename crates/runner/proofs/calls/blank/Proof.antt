@@ -1,6 +1,6 @@
 use mathlib.Core.Path.{ap, _∙_}
 use Prim.Native.Nat.{_*_}
-use Rattle.runner.specs.Stage2.{withPart}
+use Rattle.runner.specs.Code.Stage2.{withPart}
 use Rattle.runner.proofs.Widths.{part-fits, part-offset, parts-rise, part-in, small-fits}
 use Rattle.runner.proofs.Runs.{no-marks}
 use Rattle.runner.proofs.calls.blank.Statement.{statement}

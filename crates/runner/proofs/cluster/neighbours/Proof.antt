@@ -11,13 +11,13 @@ use borrow.Author.Needs.{needs}
 use borrow.Author.Tests.{ne-eqb}
 use Rattle.rules.specs.Color.{Color, average}
 use Rattle.rules.specs.Grid.{sides}
-use Rattle.rules.specs.Layout.{walk}
+use Rattle.rules.specs.Layout.{walk, slotWidth, firstPixelPlace, pixelCountPlace}
 use Rattle.rules.specs.Paint.{reads}
 use Rattle.rules.specs.Stage2.{labelsAt, labelsAround}
 use Rattle.rules.proofs.Connected.{AllSome}
 use Rattle.rules.proofs.Labels.{sides-fit}
-use Rattle.runner.specs.Slots.{sumAt}
-use Rattle.runner.specs.Neighbours.{placeLabel, diffFrom, diffAt, nearestOf, Scan, notedFour, Notable, Scannable, listAt, Found}
+use Rattle.runner.specs.Code.Slots.{sumAt}
+use Rattle.runner.specs.Code.Neighbours.{placeLabel, diffFrom, diffAt, nearestOf, Scan, notedFour, Notable, Scannable, listAt, Found}
 use Rattle.rules.proofs.Walks.{Step, step, walk-none}
 use Rattle.runner.proofs.Nearest.{Holds, each-length, each-count, each-holds}
 use Rattle.runner.proofs.cluster.neighbours.Statement.{statement}
@@ -33,7 +33,7 @@ record Going (labels links table marks : List ℕ) (w h k visit : ℕ) (s : Scan
   rest : labelsAround w h labels k (walk (λ p. getD links p 0) at left) found ≡ labelsAround w h labels k (listAt links table k) []
 
 module _ (labels links table marks : List ℕ) (w h k visit : ℕ) (S : Scannable labels links table marks w h k visit) where
-  begins : Going labels links table marks w h k visit (record { marks = marks; nearest = nearestOf (diffAt table k) [] }) (getD table (21 * k + 0) 0) (getD table (21 * k + 1) 0)
+  begins : Going labels links table marks w h k visit (record { marks = marks; nearest = nearestOf (diffAt table k) [] }) (getD table (slotWidth * k + firstPixelPlace) 0) (getD table (slotWidth * k + pixelCountPlace) 0)
   begins = record {
     kept = refl;
     readable = S .readable;

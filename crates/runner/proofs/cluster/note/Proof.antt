@@ -10,7 +10,7 @@ use borrow.Author.Tests.{eq-eqb, ne-eqb}
 use Rattle.rules.specs.Color.{colorDiff}
 use Rattle.color.specs.Colors.{colorOf}
 use Rattle.runner.specs.declared.cluster.Nearest.{Nearest}
-use Rattle.runner.specs.Neighbours.{Scan, added, noted}
+use Rattle.runner.specs.Code.Neighbours.{Scan, withNeighbour, noted}
 use Rattle.runner.proofs.Widths.{offset-fits}
 use Rattle.runner.proofs.cluster.note.Statement.{statement}
 use Rattle.runner.proofs.cluster.note.Tie as tie
@@ -20,7 +20,7 @@ other : (l own : ℕ) → (eqb l 0 || eqb l own) ≡ false → l ≢ 0
 other l own e z = subst T (rw (eq-eqb l 0 z) at e) tt
 
 -- a label that is not marked is a neighbour
-counted : (key : ℕ → ℕ) (own visit l : ℕ) (marks : List ℕ) (found : Nearest) {d : ℕ} {r : Nearest} → (eqb l 0 || eqb l own) ≡ false → getD marks l 0 ≢ visit → d ≡ key l → r ≡ added found l d
+counted : (key : ℕ → ℕ) (own visit l : ℕ) (marks : List ℕ) (found : Nearest) {d : ℕ} {r : Nearest} → (eqb l 0 || eqb l own) ≡ false → getD marks l 0 ≢ visit → d ≡ key l → r ≡ withNeighbour found l d
     → _≡_ {A = Scan} (record { marks = set marks l visit; nearest = r }) (noted key own visit l (record { marks = marks; nearest = found }))
 unfolding noted
 counted key own visit l marks found e f g h = rw (e, ne-eqb (getD marks l 0) visit f, ← g) (ap (λ x. record { marks = set marks l visit; nearest = x }) h)

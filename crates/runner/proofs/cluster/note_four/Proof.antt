@@ -7,7 +7,7 @@ use lib.Dec.{lit<}
 use lib.ListN.{length}
 use borrow.Author.Needs.{needs}
 use Rattle.rules.specs.Base.{each}
-use Rattle.runner.specs.Neighbours.{Scan, noted, notedFour, Notable}
+use Rattle.runner.specs.Code.Neighbours.{Scan, noted, notedFour, Notable}
 use Rattle.runner.proofs.Nearest.{noted-length, noted-count}
 use Rattle.runner.proofs.cluster.note_four.Statement.{statement}
 use Rattle.runner.proofs.cluster.note_four.Tie as tie

@@ -7,7 +7,7 @@ use lib.ListN.{length, getD}
 use Rattle.rules.specs.Layout.{walk}
 use Rattle.rules.specs.Paint.{reads}
 use Rattle.runner.specs.Types.{configOf}
-use Rattle.runner.specs.Interior.{someInside}
+use Rattle.runner.specs.Code.Interior.{someInside}
 use Rattle.rules.proofs.Walks.{Step, step, walk-none}
 use Rattle.runner.proofs.geometry.has_interior.Statement.{statement}
 use Rattle.runner.proofs.geometry.has_interior.Tie as tie

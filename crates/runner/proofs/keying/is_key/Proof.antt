@@ -1,17 +1,9 @@
-use mathlib.Core.Path.{ap, ap₂, _∙_}
-use mathlib.Core.Bool.{_&&_}
 use borrow.Author.Needs.{needs}
-use Rattle.rules.specs.Color.{equalColor}
-use Rattle.rules.specs.Stage1.{isKey}
-use Rattle.color.specs.Colors.{colorOf}
 use Rattle.runner.proofs.keying.is_key.Statement.{statement}
 use Rattle.runner.proofs.keying.is_key.Tie as tie
 
 returns : tie.Need-returns
-unfolding isKey
-returns c =
-    let key = c .before .before .before .before .before .args .o .«key_color» in
-    ap₂ _&&_ (c .before .before .keying-on .ensures) (c .equal .ensures ∙ ap (λ x. equalColor x (colorOf key)) (c .before .color-at .ensures))
+returns c = c .is-key-color .ensures _ _ (c .before .color-at .ensures)
 
 pub is-key-spec : {M : Type 1} → statement M
-is-key-spec = tie.close (tie.spec (search needs) (search needs) (search needs) returns)
+is-key-spec = tie.close (tie.spec (search needs) (search needs) returns)

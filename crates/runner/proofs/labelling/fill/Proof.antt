@@ -4,7 +4,7 @@ use Prim.Native.Nat.{ℕ, _+_, _-_, _≤_}
 use native.Mathlib.Numerals.{add-one}
 use native.Mathlib.Omega.{arith}
 use lib.ListN.{length, set, length-set}
-use Rattle.rules.specs.Spans.{setFrom}
+use Rattle.rules.specs.Code.Spans.{setFrom}
 use Rattle.runner.proofs.labelling.fill.Statement.{statement}
 use Rattle.runner.proofs.labelling.fill.Tie as tie
 

@@ -1,6 +1,6 @@
 use mathlib.Core.Path.{refl}
 use Rattle.rules.proofs.Walks.{walk-none}
-use Rattle.runner.specs.Labelling.{Relabels}
+use Rattle.runner.specs.Code.Labelling.{Relabels}
 use Rattle.runner.proofs.Labels.{can-go-on, relabels-then}
 use Rattle.runner.proofs.labelling.relabel.Statement.{statement}
 use Rattle.runner.proofs.labelling.relabel.Tie as tie

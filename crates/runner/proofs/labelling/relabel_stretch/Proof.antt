@@ -2,12 +2,13 @@ use Prim.Native.Nat.{_+_, _-_, _≤_, _<_}
 use native.Mathlib.Omega.{arith}
 use borrow.Author.Needs.{needs}
 use lib.ListN.{length}
+use Rattle.rules.specs.Code.Bounds.{countBound}
 use Rattle.runner.proofs.Labels.{next-step, stretch-in, relabels-one, relabels-stretch}
 use Rattle.runner.proofs.labelling.relabel_stretch.Statement.{statement}
 use Rattle.runner.proofs.labelling.relabel_stretch.Tie as tie
 
 -- the first pixel of the list
-first : (c : tie.After-shared-slice-known) → (let a = c .before .before .args in (1 ≤ a .at) × (a .at ≤ length (a .labels .now)) × (a .at ≤ length (a .links .now)) × (a .at < 2000000))
+first : (c : tie.After-shared-slice-known) → (let a = c .before .before .args in (1 ≤ a .at) × (a .at ≤ length (a .labels .now)) × (a .at ≤ length (a .links .now)) × (a .at < countBound))
 first c = let p = c .before .before .pre in let s = next-step (p .0) (p .1) in (s .some, s .within, omega (arith, s .within, p .0 .links), omega (arith, s .within, p .0 .small))
 
 -- the last pixel of the stretch

@@ -2,7 +2,7 @@ use Prim.Native.Nat.{_+_, _-_, _≤_, _<_}
 use native.Mathlib.Omega.{arith}
 use borrow.Author.Count.{below-more}
 use lib.ListN.{length}
-use Rattle.rules.specs.Spans.{Consecutive}
+use Rattle.rules.specs.Code.Spans.{Consecutive}
 use Rattle.runner.proofs.Labels.{next-step, stretch-in}
 use Rattle.runner.proofs.labelling.stretch.Statement.{statement}
 use Rattle.runner.proofs.labelling.stretch.Tie as tie

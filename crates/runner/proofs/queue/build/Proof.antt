@@ -1,6 +1,6 @@
 use mathlib.Core.Path.{ap₂, _∙_}
 use native.Mathlib.Omega.{arith}
-use Rattle.runner.specs.Queue.{firstOf}
+use Rattle.runner.specs.Code.Queue.{firstEntry}
 use Rattle.runner.proofs.Tournament.{Building, build-start, build-down, build-end, held-node}
 use Rattle.runner.proofs.queue.build.Statement.{statement}
 use Rattle.runner.proofs.queue.build.Tie as tie
@@ -14,7 +14,7 @@ abbrev μ-loop : tie.MeasureT-loop
 
 loop-again : tie.Need-loop-again Inv-loop μ-loop
 loop-again c =
-    let e = c .before .before .before .first-of .ensures ∙ ap₂ firstOf (c .before .before .before .before .before .before .before .at .ensures) (c .before .before .before .before .before .at2 .ensures) in
+    let e = c .before .before .before .first-entry .ensures ∙ ap₂ firstEntry (c .before .before .before .before .before .before .before .at .ensures) (c .before .before .before .before .before .at2 .ensures) in
     build-down _ _ _ _ _ _ (c .before .before .before .before .before .before .before .before .before .before .loop .inv) (c .before .before .before .before .before .before .before .before .before .loop-test .taken) (c .before .before .hold .ensures ∙ held-node _ _ _ _ _ e)
 
 returns : tie.Need-returns Inv-loop μ-loop

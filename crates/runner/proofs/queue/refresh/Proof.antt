@@ -2,7 +2,7 @@ use mathlib.Core.Path.{_≡_, refl, ap, ap₂, _∙_}
 use Prim.Native.Nat.{_/_}
 use native.Mathlib.Omega.{arith}
 use borrow.Author.Needs.{needs}
-use Rattle.runner.specs.Queue.{firstOf, entryAt, firstBelow}
+use Rattle.runner.specs.Code.Queue.{firstEntry, entryAt, firstBelow}
 use Rattle.runner.proofs.Tournament.{beside-in, first-beside, held-node, kept-node}
 use Rattle.runner.proofs.queue.refresh.Statement.{statement}
 use Rattle.runner.proofs.queue.refresh.Tie as tie
@@ -11,10 +11,10 @@ at-requires : tie.Need-at-requires
 at-requires c κs = let p = c .before .before .before .pre in (p .0, rw (c .beside .ensures) (beside-in _ _ (p .1 .0 .0) (p .1 .0 .1)))
 
 -- what is to stand at the node
-chosen : (c : tie.After-first-of) → let a = c .before .before .before .before .before .args in c .first-of .result ≡ firstBelow (a .queue .now) (a .n) (a .room) (a .x / 2)
+chosen : (c : tie.After-first-entry) → let a = c .before .before .before .before .before .args in c .first-entry .result ≡ firstBelow (a .queue .now) (a .n) (a .room) (a .x / 2)
 chosen c =
     let s = c .before .before .before .before .before in
-    c .first-of .ensures ∙ ap₂ firstOf (s .pre .1 .1) (c .before .at .ensures ∙ ap (entryAt (s .args .queue .now) (s .args .n) (s .args .room)) (c .before .before .beside .ensures)) ∙ first-beside _ _ _ _
+    c .first-entry .ensures ∙ ap₂ firstEntry (s .pre .1 .1) (c .before .at .ensures ∙ ap (entryAt (s .args .queue .now) (s .args .n) (s .args .room)) (c .before .before .beside .ensures)) ∙ first-beside _ _ _ _
 
 returns : tie.Need-returns
 returns c =

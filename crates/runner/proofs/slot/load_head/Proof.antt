@@ -1,6 +1,6 @@
 use mathlib.Core.Path.{refl}
 use borrow.Author.Needs.{needs}
-use Rattle.runner.specs.Slots.{headAt}
+use Rattle.runner.specs.Code.Slots.{headAt}
 use Rattle.rules.proofs.Fits.{slot-fits, slot-offset, slot-in}
 use Rattle.runner.proofs.slot.load_head.Statement.{statement}
 use Rattle.runner.proofs.slot.load_head.Tie as tie

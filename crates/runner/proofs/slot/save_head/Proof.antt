@@ -2,16 +2,17 @@ use mathlib.Core.Path.{_≡_, refl}
 use Prim.Native.Nat.{ℕ, _*_}
 use lib.ListN.{length, take}
 use borrow.Author.Needs.{needs}
-use Rattle.runner.specs.Slots.{store, headNumbers, savedHead}
+use Rattle.runner.specs.Code.Slots.{setNumbers, headNumbers, savedHead}
 use Rattle.rules.proofs.Fits.{slot-fits, slot-offset, slot-in}
+use Rattle.rules.specs.Layout.{slotWidth}
 use Rattle.runner.proofs.Tables.{store-length}
 use Rattle.runner.proofs.Widths.{slot-kept}
 use Rattle.runner.proofs.slot.save_head.Statement.{statement}
 use Rattle.runner.proofs.slot.save_head.Tie as tie
 
 -- the table keeps its length while its numbers are stored
-written : (c : tie.Start) (m : ℕ) → length (store (c .args .table .now) (21 * c .args .k) 0 (take m (headNumbers (c .args .s)))) ≡ length (c .args .table .now)
-written c m = store-length (c .args .table .now) (21 * c .args .k) 0 (take m (headNumbers (c .args .s)))
+written : (c : tie.Start) (m : ℕ) → length (setNumbers (c .args .table .now) (slotWidth * c .args .k) 0 (take m (headNumbers (c .args .s)))) ≡ length (c .args .table .now)
+written c m = store-length (c .args .table .now) (slotWidth * c .args .k) 0 (take m (headNumbers (c .args .s)))
 
 returns : tie.Need-returns
 unfolding savedHead

@@ -1,7 +1,7 @@
 use mathlib.Core.Path.{refl}
 use lib.ListN.{length-set}
 use borrow.Author.Needs.{needs}
-use Rattle.runner.specs.Slots.{savedResidue}
+use Rattle.runner.specs.Code.Slots.{savedResidue}
 use Rattle.rules.proofs.Fits.{slot-fits, slot-offset, slot-in}
 use Rattle.runner.proofs.slot.save_residue.Statement.{statement}
 use Rattle.runner.proofs.slot.save_residue.Tie as tie

@@ -6,15 +6,16 @@ use borrow.Author.Needs.{needs}
 use lib.ListN.{length, getD, set}
 use Rattle.rules.specs.Color.{ColorSum}
 use Rattle.rules.specs.State.{Cluster, withCluster}
-use Rattle.rules.specs.Spans.{setFrom, sumFrom, spanRect, spanOf}
+use Rattle.rules.specs.Code.Spans.{setFrom, sumFrom, spanRect, spanOf}
 use Rattle.rules.proofs.Spans.{first-upFrom, length-upFrom}
+use Rattle.rules.specs.Code.Bounds.{sumBound}
 use Rattle.color.specs.Colors.{sumOf}
 use Rattle.color.specs.declared.ColorSum as declared
 use Rattle.runner.specs.declared.slot.Head.{Head}
 use Rattle.runner.specs.Types.{rectOf}
-use Rattle.runner.specs.Slots.{Adds, headAt, headOf, savedHead}
-use Rattle.runner.specs.Rep.{linkAfter}
-use Rattle.runner.specs.Spans.{linkedFrom, CanAddSpan, AddedSpan}
+use Rattle.runner.specs.Code.Slots.{Adds, headAt, headOf, savedHead}
+use Rattle.runner.specs.Code.Rep.{linkAfter}
+use Rattle.runner.specs.Code.Spans.{linkedFrom, CanAddSpan, AddedSpan}
 use Rattle.runner.proofs.Slots.{head-is}
 use Rattle.runner.proofs.Widths.{offset-fits}
 use Rattle.runner.proofs.spans.add_span.Statement.{statement}
@@ -32,7 +33,7 @@ module _ {image : List ℕ} {k i x y n : ℕ} {L K B E : List ℕ} {s : Head} (l
   asks-link : 0 < s .count → (0 < getD E k 0) × (getD E k 0 ≤ length K)
   asks-link = rw loaded (p .room .tail)
 
-  asks-sum : {z : declared.ColorSum} → sumOf z ≡ sumFrom image i n → (s .count + n < 4000000) × Adds (sumOf (s .sum)) (sumOf z)
+  asks-sum : {z : declared.ColorSum} → sumOf z ≡ sumFrom image i n → (s .count + n < sumBound) × Adds (sumOf (s .sum)) (sumOf z)
   asks-sum e = rw (loaded, e) (omega (arith, p .room .count, p .small .0), p .sum)
 
   -- the span is added

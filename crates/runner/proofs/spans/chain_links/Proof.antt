@@ -4,7 +4,7 @@ use Prim.Native.Nat.{ℕ, _+_, _-_, _≤_}
 use native.Mathlib.Numerals.{add-one}
 use native.Mathlib.Omega.{arith}
 use lib.ListN.{length, set, length-set}
-use Rattle.runner.specs.Spans.{linkedFrom}
+use Rattle.runner.specs.Code.Spans.{linkedFrom}
 use Rattle.runner.proofs.spans.chain_links.Statement.{statement}
 use Rattle.runner.proofs.spans.chain_links.Tie as tie
 

@@ -3,7 +3,7 @@ use Prim.Native.Nat.{_-_, _*_, _≤_}
 use native.Mathlib.Omega.{arith}
 use borrow.Author.Count.{below-more}
 use borrow.Author.Needs.{needs}
-use Rattle.runner.specs.Spans.{ManyNear}
+use Rattle.runner.specs.Code.Spans.{ManyNear}
 use Rattle.runner.proofs.spans.four_far.Statement.{statement}
 use Rattle.runner.proofs.spans.four_far.Tie as tie
 

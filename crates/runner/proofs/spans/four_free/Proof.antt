@@ -1,17 +1,14 @@
-use mathlib.Core.Path.{_≡_, refl, sym, ap, _∙_}
-use mathlib.Core.Bool.{Bool, true, false, not, _&&_, true≢false}
+use mathlib.Core.Path.{sym, ap, _∙_}
+use mathlib.Core.Bool.{not, _&&_}
 use native.Mathlib.Omega.{arith}
 use borrow.Author.Needs.{needs}
+use borrow.Author.Tests.{not-true}
 use Rattle.rules.specs.Stage1.{isKey}
 use Rattle.rules.proofs.Facts.{both-true}
 use Rattle.runner.specs.Types.{configOf}
 use Rattle.runner.proofs.SpanLaws.{of-four}
 use Rattle.runner.proofs.spans.four_free.Statement.{statement}
 use Rattle.runner.proofs.spans.four_free.Tie as tie
-
-not-true : (b : Bool) → not b ≡ true → b ≡ false
-not-true true e = absurd (true≢false (sym e))
-not-true false e = refl
 
 returns : tie.Need-returns
 returns c e =

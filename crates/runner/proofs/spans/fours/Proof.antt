@@ -1,9 +1,9 @@
 use Prim.Native.Nat.{_-_, _≤_}
 use native.Mathlib.Omega.{arith}
 use borrow.Author.Tests.{not-false}
-use Rattle.rules.specs.Spans.{Extends, AllExtend}
+use Rattle.rules.specs.Code.Spans.{Extends, AllExtend}
 use Rattle.runner.specs.Types.{configOf}
-use Rattle.runner.specs.Spans.{Fitting}
+use Rattle.runner.specs.Code.Spans.{Fitting}
 use Rattle.runner.proofs.SpanLaws.{then-more}
 use Rattle.runner.proofs.spans.fours.Statement.{statement}
 use Rattle.runner.proofs.spans.fours.Tie as tie

@@ -5,7 +5,7 @@ use borrow.Author.Needs.{needs}
 use lib.ListN.{getD}
 use mir.Syntax.{w32}
 use mir.ValLaws.{toZ-ofZ}
-use Rattle.runner.specs.Spans.{Limits}
+use Rattle.runner.specs.Code.Spans.{Limits}
 use Rattle.runner.proofs.SpanLaws.{of-three, of-four}
 use Rattle.runner.proofs.spans.limits_of.Statement.{statement}
 use Rattle.runner.proofs.spans.limits_of.Tie as tie

@@ -8,10 +8,10 @@ use borrow.Author.Tests.{not-false}
 use lib.IntN.{pos}
 use lib.ListN.{getD}
 use Rattle.rules.specs.Color.{RunnerConfig}
-use Rattle.rules.specs.Spans.{Extends, AllExtend}
+use Rattle.rules.specs.Code.Spans.{Extends, AllExtend}
 use Rattle.rules.proofs.Spans.{same-bound}
 use Rattle.runner.specs.Types.{configOf}
-use Rattle.runner.specs.Spans.{FoundSpan}
+use Rattle.runner.specs.Code.Spans.{FoundSpan}
 use Rattle.runner.proofs.SpanLaws.{then-more}
 use Rattle.runner.proofs.spans.span_length.Statement.{statement}
 use Rattle.runner.proofs.spans.span_length.Tie as tie

@@ -4,12 +4,14 @@ use Prim.Native.Nat.{ℕ, _+_, _-_, _*_, _≤_, _<_}
 use native.Mathlib.Numerals.{add-one}
 use native.Mathlib.Omega.{arith}
 use lib.ListN.{getD}
-use Rattle.rules.specs.Color.{Color, ColorSum, one, _⊕_, pixel}
-use Rattle.rules.specs.Ranges.{Fits}
-use Rattle.rules.specs.Spans.{sumFrom}
+use Rattle.rules.specs.Color.{Color, ColorSum, sumOfOne, _⊕_, pixel}
+use Rattle.rules.specs.Code.Ranges.{Fits}
+use Rattle.rules.specs.Code.Spans.{sumFrom}
 use Rattle.rules.proofs.Spans.{sum-fits}
+use Rattle.rules.specs.Code.Bounds.{countBound}
 use Rattle.color.specs.Colors.{sumOf}
-use Rattle.runner.specs.Slots.{Adds}
+use Rattle.runner.specs.Code.Slots.{Adds}
+use Rattle.runner.proofs.Slots.{adds-taken}
 use Rattle.runner.proofs.spans.sum_colors.Statement.{statement}
 use Rattle.runner.proofs.spans.sum_colors.Tie as tie
 
@@ -20,8 +22,8 @@ abbrev μ-loop : tie.MeasureT-loop
 μ-loop image i n s₀ j₀ s j = n - j
 
 -- a colour more fits
-one-fits : (image : List ℕ) → ((p : ℕ) → getD image p 0 ≤ 255) → (i j : ℕ) → j < 2000000 → {v : ColorSum} {c : Color} → v ≡ sumFrom image i j → c ≡ pixel image (i + j) → Adds v (one c)
-unfolding one pixel
+one-fits : (image : List ℕ) → ((p : ℕ) → getD image p 0 ≤ 255) → (i j : ℕ) → j < countBound → {v : ColorSum} {c : Color} → v ≡ sumFrom image i j → c ≡ pixel image (i + j) → Adds v (sumOfOne c)
+unfolding sumOfOne pixel
 one-fits image b i j l {v} {c} e f =
     let F : Fits j v = subst (Fits j) (sym e) (sum-fits image b i j) in
     record {
@@ -32,9 +34,9 @@ one-fits image b i j l {v} {c} e f =
       count = omega (arith, F .count);
     }
 
-more : (image : List ℕ) (i j : ℕ) {v : ColorSum} {c : Color} → v ≡ sumFrom image i j → c ≡ pixel image (i + j) → v ⊕ one c ≡ sumFrom image i (j + 1)
+more : (image : List ℕ) (i j : ℕ) {v : ColorSum} {c : Color} → v ≡ sumFrom image i j → c ≡ pixel image (i + j) → v ⊕ sumOfOne c ≡ sumFrom image i (j + 1)
 unfolding sumFrom
-more image i j e f = ap₂ (λ a b. a ⊕ one b) e f ∙ ap (sumFrom image i) (sym (add-one j))
+more image i j e f = ap₂ (λ a b. a ⊕ sumOfOne b) e f ∙ ap (sumFrom image i) (sym (add-one j))
 
 loop-holds : tie.Need-loop-holds Inv-loop μ-loop
 unfolding sumFrom
@@ -43,16 +45,12 @@ loop-holds c = (omega arith, c .no-sum .ensures)
 color-at-requires : tie.Need-color-at-requires Inv-loop μ-loop
 color-at-requires c κs = omega (arith, c .loop-test .taken, c .before .before .before .before .pre)
 
-plus-requires : tie.Need-plus-requires Inv-loop μ-loop
-plus-requires c κs =
-    let a = c .before .before .before in
-    let s = a .before .before .before in
-    subst (Adds (sumOf (a .loop .s))) (sym (c .one .ensures)) (one-fits (s .args .image .now) (λ p. omega (arith, a .before .before .shared-slice-known .given p)) (s .args .i) (a .loop .j) (omega (arith, c .before .before .loop-test .taken, s .pre)) (a .loop .inv .1) (c .before .color-at .ensures))
-
 loop-again : tie.Need-loop-again Inv-loop μ-loop
 loop-again c =
-    let a = c .before .before .before .before in
-    (omega (arith, c .before .before .before .loop-test .taken), c .plus .ensures ∙ ap (λ z. sumOf (a .loop .s) ⊕ z) (c .before .one .ensures) ∙ more _ _ _ (a .loop .inv .1) (c .before .before .color-at .ensures))
+    let a = c .before .before .before in
+    let s = a .before .before .before in
+    let more-fits = one-fits (s .args .image .now) (λ p. omega (arith, a .before .before .shared-slice-known .given p)) (s .args .i) (a .loop .j) (omega (arith, c .before .before .loop-test .taken, s .pre)) (a .loop .inv .1) (c .before .color-at .ensures) in
+    (omega (arith, c .before .before .loop-test .taken), c .sum-with .ensures ∙ adds-taken more-fits ∙ more _ _ _ (a .loop .inv .1) (c .before .color-at .ensures))
 
 returns : tie.Need-returns Inv-loop μ-loop
 returns c =
@@ -64,4 +62,4 @@ returns c =
 pub sum-colors-spec : {M : Type 1} → statement M
 sum-colors-spec =
     tie.close
-    (tie.spec Inv-loop μ-loop (λ c κs. tt) loop-holds (λ c. omega arith) color-at-requires (λ c κs. tt) plus-requires (λ c. omega arith) (λ c. omega arith) loop-again returns)
+    (tie.spec Inv-loop μ-loop (λ c κs. tt) loop-holds (λ c. omega arith) color-at-requires (λ c κs. tt) (λ c. omega arith) (λ c. omega arith) loop-again returns)

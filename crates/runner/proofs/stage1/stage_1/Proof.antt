@@ -6,9 +6,10 @@ use native.Mathlib.Omega.{arith}
 use lib.ListN.{length}
 use Rattle.rules.specs.Color.{RunnerConfig}
 use Rattle.rules.specs.Stage1.{taken}
-use Rattle.runner.specs.Slots.{clearedSlot}
+use Rattle.rules.specs.Layout.{slotWidth}
+use Rattle.runner.specs.Code.Slots.{clearedSlot}
 use Rattle.runner.specs.Types.{configOf}
-use Rattle.runner.specs.Stage1.{Given, Holding, Taking}
+use Rattle.runner.specs.Code.Stage1.{Given, Holding, Taking}
 use Rattle.runner.proofs.SpanLaws.{row-end}
 use Rattle.runner.proofs.Spots.{spot-of, near-row}
 use Rattle.runner.proofs.Stage1Steps.{held-fresh, held-all}
@@ -20,16 +21,16 @@ record Going (o : RunnerConfig) (w h : ℕ) (image L₀ K₀ B₀ E₀ L K B E :
   index : i ≡ w * y + x
   column : x < w
   within : i ≤ w * h
-  held : (t₀ : List ℕ) → B₀ ≡ clearedSlot t₀ 0 → 21 * (w * h + 1) ≤ length t₀ → Holding (w * h) (taken o w image (w * h) i) t₀ L K B E n m
+  held : (t₀ : List ℕ) → B₀ ≡ clearedSlot t₀ 0 → slotWidth * (w * h + 1) ≤ length t₀ → Holding (w * h) (taken o w image (w * h) i) t₀ L K B E n m
   kept : (length L ≡ length L₀) × (length K ≡ length K₀) × (length B ≡ length B₀) × (length E ≡ length E₀)
 
 taking : {o : RunnerConfig} {w h shift : ℕ} {image L₀ K₀ B₀ E₀ L K B E : List ℕ} {n m i x y : ℕ} → Given o w h image shift → Going o w h image L₀ K₀ B₀ E₀ L K B E n m i x y → i < w * h
-    → (t₀ : List ℕ) → B₀ ≡ clearedSlot t₀ 0 → 21 * (w * h + 1) ≤ length t₀ → Taking o w h image shift i x y t₀ L K B E n m
+    → (t₀ : List ℕ) → B₀ ≡ clearedSlot t₀ 0 → slotWidth * (w * h + 1) ≤ length t₀ → Taking o w h image shift i x y t₀ L K B E n m
 taking G I l t₀ e r = record { given = G; spot = spot-of (I .index) (I .column) l; holding = I .held t₀ e r; room = r }
 
 abbrev Inv-loop : tie.InvT-loop
 Inv-loop image labels₀ links₀ table₀ ends₀ o shift w h size s₀ limits i₀ at₀ labels links table ends s i at =
-    Going (configOf o) w h image labels₀ links₀ table₀ ends₀ labels links table ends (s .next) (s .count) i (at .x) (at .y)
+    Going (configOf o) w h image labels₀ links₀ table₀ ends₀ labels links table ends (s .«next_index») (s .count) i (at .x) (at .y)
 
 abbrev μ-loop : tie.MeasureT-loop
 μ-loop image labels₀ links₀ table₀ ends₀ o shift w h size s₀ limits i₀ at₀ labels links table ends s i at = size - i
@@ -56,7 +57,7 @@ take-pixels-requires c κs =
     let a = c .before .before .before .before .before in
     let b = c .before .before .before .before .before .before .before .before .before .before in
     let p = c .before .before .before .before .before .before .before .before .before .before .before .before .before .before .before .before .before .pre in
-    (c .before .before .before .before .before .before .before .limits-of .ensures, (_, _, taking (p .0) (a .before .loop .inv) (a .loop-test .taken) _ (b .clear-slot .ensures) (p .1 .table)))
+    (c .before .before .before .before .before .before .before .limits-of .ensures, (_, taking (p .0) (a .before .loop .inv) (a .loop-test .taken) _ (b .clear-slot .ensures) (p .1 .table)))
 
 -- the pixels taken are on the image
 inside : (c : tie.After-take-pixels Inv-loop μ-loop) → (let l = c .before .before .before .before .before .before .before in let a = l .before .before .before .before .before .before .before .before .before .before .before .args in l .loop .i + c .take-pixels .result .pixels ≤ a .w * a .h)
@@ -91,7 +92,7 @@ loop-again c =
       index = c .cell-past .ensures .1 _ (I .index);
       column = c .cell-past .ensures .0;
       within = inside b;
-      held = λ t₀ e r. b .take-pixels .ensures .2 _ t₀ (taking (c .before .before .before .before .before .before .before .before .before .before .before .before .before .before .before .before .before .before .before .before .before .before .before .before .before .before .before .before .pre .0) I (a .loop-test .taken) t₀ e r);
+      held = λ t₀ e r. b .take-pixels .ensures .2 t₀ (taking (c .before .before .before .before .before .before .before .before .before .before .before .before .before .before .before .before .before .before .before .before .before .before .before .before .before .before .before .before .pre .0) I (a .loop-test .taken) t₀ e r);
       kept = (k .0 ∙ I .kept .0, k .1 .0 ∙ I .kept .1, k .1 .1 .0 ∙ I .kept .2, k .1 .1 .1 .0 ∙ I .kept .3);
     }
 

@@ -1,17 +1,13 @@
 use mathlib.Core.Path.{_≡_, refl, ap, _∙_}
-use mathlib.Core.Bool.{Bool, true, false, not, _&&_, _||_}
+use mathlib.Core.Bool.{Bool, true, false, not, _&&_}
 use mathlib.Core.List.{List}
 use Prim.Native.Nat.{ℕ}
 use borrow.Author.Needs.{needs}
-use borrow.Author.Tests.{eq-eqb, ne-eqb}
-use lib.Dec.{ltb, eqb}
-use lib.ListN.{getD}
+use lib.Dec.{eqb}
 use mir.Syntax.{w32}
 use mir.Val.{toZ, ofZ}
-use Rattle.rules.specs.Color.{RunnerConfig, exceeds}
-use Rattle.rules.specs.Layout.{walk}
-use Rattle.runner.specs.Interior.{someInside}
-use Rattle.runner.specs.Stage2.{deepensAt}
+use Rattle.rules.specs.Color.{RunnerConfig, hierarchicalMax, exceeds}
+use Rattle.runner.specs.Code.Stage2.{patchGoodAt, deepensAt}
 use Rattle.runner.proofs.stage2.deepens.Statement.{statement}
 use Rattle.runner.proofs.stage2.deepens.Tie as tie
 
@@ -28,29 +24,25 @@ and-passed true true false z = cc
 and-passed true false x z = refl
 and-passed false e x z = cc
 
--- the tests that come before the interior's; x is whether the difference exceeds the setting
+-- the tests that come before the patch's; x is whether the difference exceeds the setting
 module _ (o : RunnerConfig) (image labels links : List ℕ) (w h k first area d : ℕ) {x : Bool} (e : x ≡ exceeds d (o .deepenDiff)) where
-  refused : not (eqb (o .hierarchical) 4294967295 && ltb (o .goodMinArea) area && ltb area (o .goodMaxArea) && x) ≡ true → false ≡ deepensAt o image labels links w h k first area d
+  refused : not (eqb (o .hierarchical) hierarchicalMax && x) ≡ true → false ≡ deepensAt o image labels links w h k first area d
   unfolding deepensAt
-  refused z = rw (← e) (and-refused (eqb (o .hierarchical) 4294967295 && ltb (o .goodMinArea) area && ltb area (o .goodMaxArea)) _ x z)
+  refused z = rw (← e) (and-refused (eqb (o .hierarchical) hierarchicalMax) _ x z)
 
-  passed : not (eqb (o .hierarchical) 4294967295 && ltb (o .goodMinArea) area && ltb area (o .goodMaxArea) && x) ≡ false → {all : Bool} → eqb (o .goodMinArea) 0 ≡ all
-      → all || someInside o image labels w h k (walk (λ p. getD links p 0) first area) ≡ deepensAt o image labels links w h k first area d
+  passed : not (eqb (o .hierarchical) hierarchicalMax && x) ≡ false → patchGoodAt o image labels links w h k first area ≡ deepensAt o image labels links w h k first area d
   unfolding deepensAt
-  passed z a = rw (← e, ← a) (and-passed (eqb (o .hierarchical) 4294967295 && ltb (o .goodMinArea) area && ltb area (o .goodMaxArea)) _ x z)
+  passed z = rw (← e) (and-passed (eqb (o .hierarchical) hierarchicalMax) _ x z)
 
 -- what `exceeds` answered, of the setting itself
-told : (c : tie.After-exceeds) → (let a = c .before .before .before .before .before .before .before .before .args in c .exceeds .result ≡ exceeds (a .diff) (a .o .«deepen_diff»))
+told : (c : tie.After-exceeds) → (let a = c .before .before .before .before .before .before .args in c .exceeds .result ≡ exceeds (a .diff) (a .o .«deepen_diff»))
 told c =
-    let z = c .before .before .before .before .before .before .before .before .args .o .«deepen_diff» in
+    let z = c .before .before .before .before .before .before .args .o .«deepen_diff» in
     let same : toZ w32 (ofZ w32 z) ≡ z = search needs in
     c .exceeds .ensures ∙ ap (exceeds _) same
 
 returns-2 : tie.Need-returns-2
-returns-2 c = passed _ _ _ _ _ _ _ _ _ _ (told (c .before .before .before)) (c .before .before .if1 .left) (eq-eqb _ _ (c .if2 .taken))
-
-returns-3 : tie.Need-returns-3
-returns-3 c = c .has-interior .ensures ∙ passed _ _ _ _ _ _ _ _ _ _ (told (c .before .before .before .before)) (c .before .before .before .if1 .left) (ne-eqb _ _ (c .before .if2 .left))
+returns-2 c = c .patch-good .ensures ∙ passed _ _ _ _ _ _ _ _ _ _ (told (c .before .before)) (c .before .if1 .left)
 
 pub deepens-spec : {M : Type 1} → statement M
-deepens-spec = tie.close (tie.spec (search needs) (λ c. refused _ _ _ _ _ _ _ _ _ _ (told (c .before)) (c .if1 .taken)) returns-2 (λ c κs. search needs) returns-3)
+deepens-spec = tie.close (tie.spec (search needs) (λ c. refused _ _ _ _ _ _ _ _ _ _ (told (c .before)) (c .if1 .taken)) (λ c κs. search needs) returns-2)

@@ -2,8 +2,8 @@ use mathlib.Core.Path.{refl, ap, _∙_, subst}
 use Prim.Native.Nat.{_*_, max}
 use native.Mathlib.Omega.{arith}
 use borrow.Author.Needs.{needs}
-use Rattle.runner.specs.Queue.{KeySet}
-use Rattle.runner.specs.Stage2.{queuePart}
+use Rattle.runner.specs.Code.Queue.{KeySet}
+use Rattle.runner.specs.Code.Stage2.{queuePart}
 use Rattle.runner.proofs.Parts.{part-length}
 use Rattle.runner.proofs.stage2.grown.Statement.{statement}
 use Rattle.runner.proofs.stage2.grown.Tie as tie
@@ -19,7 +19,7 @@ returns c =
       work = refl;
       wide = omega (arith, k .set-key .kept .0, part-length (a .work .now) 0 (3 * a .room) (omega (arith, p .pre .long)));
       keyed = subst (KeySet (queuePart (a .room) (a .work .now)) (k .set-key .last .0) (a .t .n) (a .room) (a .to)) (s .count-of .ensures) (k .set-key .ensures);
-      turns = ap (λ x. record { n = a .t .n; m = a .t .m; turns = a .t .turns; largest = x }) (c .larger .ensures ∙ ap (max (a .t .largest)) (s .count-of .ensures));
+      turns = ap (λ x. record { n = a .t .n; m = a .t .m; turns = a .t .turns; largest = x }) (c .max .ensures ∙ ap (max (a .t .largest)) (s .count-of .ensures));
     }
 
 pub grown-spec : {M : Type 1} → statement M

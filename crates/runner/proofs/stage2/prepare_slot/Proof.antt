@@ -8,7 +8,7 @@ returns c =
     record {
       table = rw (← loaded) (c .before .before .before .before .save-residue .ensures);
       queue = rw (← loaded, ← c .before .key-of .ensures);
-      larger = rw (← loaded) (c .larger .ensures);
+      larger = rw (← loaded) (c .max .ensures);
     }
 
 pub prepare-slot-spec : {M : Type 1} → statement M

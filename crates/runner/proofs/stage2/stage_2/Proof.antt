@@ -7,7 +7,7 @@ use borrow.Author.Needs.{needs, zero≤}
 use Rattle.rules.specs.Color.{RunnerConfig}
 use Rattle.runner.specs.declared.stage2.Turns.{Turns}
 use Rattle.runner.specs.Types.{configOf}
-use Rattle.runner.specs.Stage2.{Between}
+use Rattle.runner.specs.Code.Stage2.{Between}
 use Rattle.runner.proofs.Widths.{size-fits, room-narrow, room-fits, part-fits, part-in}
 use Rattle.runner.proofs.Starting.{preparing-fits, building, started}
 use Rattle.runner.proofs.Turning.{picking, chooses, ends, turns-left}
@@ -32,19 +32,19 @@ Inv-loop image labels₀ links₀ table₀ work₀ o w h n room r largest t₀ l
 abbrev μ-loop : tie.MeasureT-loop
 μ-loop image labels₀ links₀ table₀ work₀ o w h n room r largest t₀ labels links table work t = 2 * (w * h) - t .turns
 
-prepare-requires : tie.Need-prepare-requires Inv-loop μ-loop
-prepare-requires c κs = let p = c .before .before .before .before .before .before .before .pre in preparing-fits (p .0) (p .1 .1)
+prepare-stage-2-requires : tie.Need-prepare-stage-2-requires Inv-loop μ-loop
+prepare-stage-2-requires c κs = let p = c .before .before .before .before .before .before .before .pre in preparing-fits (p .0) (p .1 .1)
 
 part-build-end : tie.Need-part-build-end Inv-loop μ-loop
-part-build-end c = let p = c .before .before .before .before .before .before .before .before .before .before .before .before .pre in let s = c .before .before .before .before .prepare in part-in 3 tt _ (building (p .0) (p .1 .1) (s .ensures) (s .kept .1 .0) .0)
+part-build-end c = let p = c .before .before .before .before .before .before .before .before .before .before .before .before .pre in let s = c .before .before .before .before .prepare-stage-2 in part-in 3 tt _ (building (p .0) (p .1 .1) (s .ensures) (s .kept .1 .0) .0)
 
 build-requires : tie.Need-build-requires Inv-loop μ-loop
-build-requires c κs = let p = c .before .before .before .before .before .before .before .before .before .before .before .before .before .pre in let s = c .before .before .before .before .before .prepare in building (p .0) (p .1 .1) (s .ensures) (s .kept .1 .0) .1
+build-requires c κs = let p = c .before .before .before .before .before .before .before .before .before .before .before .before .before .pre in let s = c .before .before .before .before .before .prepare-stage-2 in building (p .0) (p .1 .1) (s .ensures) (s .kept .1 .0) .1
 
 loop-holds : tie.Need-loop-holds Inv-loop μ-loop
 loop-holds c =
     let p = c .before .before .before .before .before .before .before .before .before .before .before .before .before .before .before .before .pre in
-    let s = c .before .before .before .before .before .before .before .before .prepare in
+    let s = c .before .before .before .before .before .before .before .before .prepare-stage-2 in
     let b = c .before .before .build in
     record {
       some = (p .1 .0, started (p .0) (p .1 .1) (s .ensures) (s .kept .1 .0) (b .ensures) (b .kept .0));
@@ -55,14 +55,14 @@ loop-holds c =
     }
 
 same-length-3 : tie.Need-same-length-3 Inv-loop μ-loop
-same-length-3 c = c .before .before .before .before .before .before .loop .inv .table ∙ c .before .before .before .before .before .before .before .before .before .before .before .before .before .before .before .prepare .kept .0
+same-length-3 c = c .before .before .before .before .before .before .loop .inv .table ∙ c .before .before .before .before .before .before .before .before .before .before .before .before .before .before .before .prepare-stage-2 .kept .0
 
 same-length-4 : tie.Need-same-length-4 Inv-loop μ-loop
 same-length-4 c = c .before .before .before .before .before .before .loop .inv .some .1 .carried .long ∙ sym (c .before .before .before .before .before .before .before .before .before .before .before .before .before .before .before .before .before .before .before .before .before .before .before .pre .0 .work)
 
 returns : tie.Need-returns Inv-loop μ-loop
 returns c = λ t₀ e.
-    let s = c .before .before .before .before .before .before .before .before .before .before .before .before .before .before .before .prepare in
+    let s = c .before .before .before .before .before .before .before .before .before .before .before .before .before .before .before .prepare-stage-2 in
     let b = c .before .before .before .before .before .before .before .before .before .build in
     ends (c .before .before .before .before .before .before .loop .inv .from t₀ (started (c .before .before .before .before .before .before .before .before .before .before .before .before .before .before .before .before .before .before .before .before .before .before .before .pre .0) e (s .ensures) (s .kept .1 .0) (b .ensures) (b .kept .0))) (c .before .before .first .ensures) (c .if1 .taken)
 
@@ -99,7 +99,7 @@ stage-2-spec =
     (λ c. zero≤)
     (λ c. zero≤)
     (λ c. part-in 3 tt _ (c .before .before .before .before .before .before .pre .0 .work))
-    prepare-requires
+    prepare-stage-2-requires
     (λ c. part-fits 3 tt (room-narrow (c .before .before .before .before .before .before .before .before .before .before .before .before .pre .0 .image-fits .small)))
     (λ c. zero≤)
     (λ c. zero≤)

@@ -5,16 +5,16 @@ use native.Mathlib.Omega.{arith}
 use borrow.Author.Needs.{needs}
 use borrow.Author.Tests.{eq-eqb, ne-eqb}
 use lib.ListN.{length}
-use Rattle.rules.specs.Refusals.{when, firstFailed, sizeChecks}
+use Rattle.rules.specs.Refusals.{refusal, firstFailed, sizeChecks}
 use Rattle.rules.specs.Stored.{storedNumbers}
-use Rattle.sheet.specs.Lengths.{CanStore}
+use Rattle.sheet.specs.Code.Lengths.{CanStore}
 use Rattle.sheet.proofs.Accepted.{short, buffers-accepted, store-number}
 use Rattle.sheet.proofs.Bytes.{stored-length}
 use Rattle.sheet.proofs.stored.answer.Statement.{statement}
 use Rattle.sheet.proofs.stored.answer.Tie as tie
 
 -- the first checks are passed
-early-zero : (c : tie.Else1) → (let a = c .before .before .before .before .before .before .args in firstFailed (sizeChecks (a .w) (a .h) ++ (when 5 (short (a .w) (a .h) (length (a .labels .now)) (length (a .links .now)) (length (a .table .now)) (length (a .outputs .now)) (a .n) (a .m)) ∷ [])) ≡ 0)
+early-zero : (c : tie.Else1) → (let a = c .before .before .before .before .before .before .args in firstFailed (sizeChecks (a .w) (a .h) ++ (refusal 5 (short (a .w) (a .h) (length (a .labels .now)) (length (a .links .now)) (length (a .table .now)) (length (a .outputs .now)) (a .n) (a .m)) ∷ [])) ≡ 0)
 early-zero c = sym (c .before .buffers-answer .ensures) ∙ c .if1 .left
 
 can-store : (c : tie.Else1) → (let a = c .before .before .before .before .before .before .args in CanStore (a .w * a .h) (a .n) (a .m) (length (a .labels .now)) (length (a .links .now)) (length (a .table .now)) (length (a .outputs .now)))

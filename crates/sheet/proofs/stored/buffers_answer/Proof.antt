@@ -17,13 +17,13 @@ small c = sized-small _ _ (sized-zero c)
 
 returns-2 : tie.Need-returns-2
 returns-2 c =
-    let s = c .before .before in
-    rw (sized, sized-zero (s .before), ← s .area .ensures, ← c .before .short .ensures, c .if2 .taken)
+    let s = c .before .before .before in
+    rw (sized, sized-zero (s .before), ← s .area .ensures, ← c .before .before .short .ensures, ← c .before .bad-counts .ensures, c .if2 .taken)
 
 returns-3 : tie.Need-returns-3
 returns-3 c =
-    let s = c .before .before in
-    rw (sized, sized-zero (s .before), ← s .area .ensures, ← c .before .short .ensures, c .if2 .left)
+    let s = c .before .before .before in
+    rw (sized, sized-zero (s .before), ← s .area .ensures, ← c .before .before .short .ensures, ← c .before .bad-counts .ensures, c .if2 .left)
 
 pub buffers-answer-spec : {M : Type 1} → statement M
 buffers-answer-spec =
@@ -31,4 +31,4 @@ buffers-answer-spec =
     (tie.spec
     (search needs)
     (λ c. rw (sized, ← c .before .size-answer .ensures, ne-eqb _ 0 (c .if1 .taken)))
-    (search needs) (λ c κs. omega (arith, c .area .ensures, small (c .before))) returns-2 returns-3)
+    (search needs) (λ c. omega (arith, c .area .ensures, small (c .before))) (search needs) (search needs) (search needs) returns-2 returns-3)

@@ -4,6 +4,7 @@ use native.Mathlib.Omega.{arith}
 use borrow.Author.Needs.{needs}
 use Rattle.rules.specs.Paint.{slotNumber}
 use Rattle.rules.specs.Stored.{isLarge, slotNumbers}
+use Rattle.rules.specs.Layout.{firstPixelPlace, pixelCountPlace}
 use Rattle.sheet.proofs.Bytes.{pairs-large}
 use Rattle.sheet.proofs.stored.large_slots.Statement.{statement}
 use Rattle.sheet.proofs.stored.large_slots.Tie as tie
@@ -23,7 +24,7 @@ unfolding slotNumbers slotNumber
 loop-again c =
     let l = c .before .before .before .loop in
     let t = c .before .before .before .before .args .table .now in
-    (omega arith, rw (l .inv .1) (sym (pairs-large (λ k. slotNumber t k 0) (λ k. slotNumber t k 1) (l .k))))
+    (omega arith, rw (l .inv .1) (sym (pairs-large (λ k. slotNumber t k firstPixelPlace) (λ k. slotNumber t k pixelCountPlace) (l .k))))
 
 returns : tie.Need-returns Inv-loop μ-loop
 returns c =

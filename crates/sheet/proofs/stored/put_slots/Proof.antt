@@ -6,6 +6,7 @@ use lib.ListN.{length}
 use lib.Seq.{sets}
 use Rattle.rules.specs.Paint.{slotNumber}
 use Rattle.rules.specs.Stored.{storedBytes, slotNumbers}
+use Rattle.rules.specs.Layout.{firstPixelPlace, pixelCountPlace}
 use Rattle.sheet.proofs.Bytes.{pairs-small, pairs-put}
 use Rattle.sheet.proofs.stored.put_slots.Statement.{statement}
 use Rattle.sheet.proofs.stored.put_slots.Tie as tie
@@ -22,7 +23,7 @@ unfolding slotNumbers storedBytes
 loop-holds c = (omega arith, refl, refl)
 
 -- the numbers of a slot are small
-small : (c : tie.In-loop Inv-loop μ-loop) → (let t = c .before .before .before .before .args .table .now in let k = c .before .loop .k in (slotNumber t k 0 ≤ 65535) × (slotNumber t k 1 ≤ 65535))
+small : (c : tie.In-loop Inv-loop μ-loop) → (let t = c .before .before .before .before .args .table .now in let k = c .before .loop .k in (slotNumber t k firstPixelPlace ≤ 65535) × (slotNumber t k pixelCountPlace ≤ 65535))
 unfolding slotNumbers
 small c =
     let s = c .before .before .before .before in

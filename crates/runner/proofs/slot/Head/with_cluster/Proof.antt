@@ -7,7 +7,7 @@ use Rattle.rules.specs.State.{mergeRect, withCluster}
 use Rattle.color.specs.Colors.{sumOf}
 use Rattle.runner.specs.declared.slot.Head.{Head}
 use Rattle.runner.specs.Types.{rectOf}
-use Rattle.runner.proofs.Slots.{head-is}
+use Rattle.runner.proofs.Slots.{head-is, adds-taken}
 use Rattle.runner.proofs.slot.Head.with_cluster.Statement.{statement}
 use Rattle.runner.proofs.slot.Head.with_cluster.Tie as tie
 
@@ -22,7 +22,7 @@ returns c = λ t f e d.
     (c .before .merge .ensures
     ∙ ap (λ (h : Head). mergeRect (rectOf (h .rect)) (rectOf (o .rect))) e
     ∙ ap (λ (h : Head). mergeRect (t .rect) (rectOf (h .rect))) d)
-    (c .plus .ensures ∙ ap (λ (h : Head). sumOf (h .sum) ⊕ sumOf (o .sum)) e ∙ ap (λ (h : Head). t .sum ⊕ sumOf (h .sum)) d)
+    (c .sum-of-two .ensures ∙ adds-taken (l .before .pre .1) ∙ ap (λ (h : Head). sumOf (h .sum) ⊕ sumOf (o .sum)) e ∙ ap (λ (h : Head). t .sum ⊕ sumOf (h .sum)) d)
 
 pub with-cluster-spec : {M : Type 1} → statement M
 with-cluster-spec = tie.close (tie.spec (search needs) (search needs) (search needs) (search needs) returns)

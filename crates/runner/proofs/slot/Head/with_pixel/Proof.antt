@@ -4,31 +4,30 @@ use Prim.Native.Nat.{_+_}
 use native.Mathlib.Numerals.{add-one}
 use borrow.Author.Needs.{needs}
 use lib.ListN.{length-append}
-use Rattle.rules.specs.Color.{ColorSum, one, _⊕_}
+use Rattle.rules.specs.Color.{sumOfOne, _⊕_}
 use Rattle.rules.specs.State.{pixelRect, mergeRect, withPixel}
 use Rattle.rules.specs.Layout.{firstOf}
 use Rattle.color.specs.Colors.{colorOf, sumOf}
 use Rattle.runner.specs.declared.slot.Head.{Head}
 use Rattle.runner.specs.Types.{rectOf}
-use Rattle.runner.proofs.Slots.{head-is}
+use Rattle.runner.proofs.Slots.{head-is, adds-taken}
 use Rattle.runner.proofs.slot.Head.with_pixel.Statement.{statement}
 use Rattle.runner.proofs.slot.Head.with_pixel.Tie as tie
 
 returns : tie.Need-returns
 unfolding withPixel firstOf
 returns c = λ k e.
-    let l = c .before .before .before .before in
+    let l = c .before .before .before in
     let a = l .before .args in
     let at = pixelRect (a .x) (a .y) in
     head-is (withPixel (a .i) (colorOf (a .c)) at k)
     (l .first-of .ensures (k .pixels) (a .i ∷ []) (ap (λ (h : Head). h .count) e) (ap (λ (h : Head). h .first) e) (add-one (a .i)))
     (ap (λ (h : Head). h .count + 1) e ∙ sym (length-append (k .pixels) (a .i ∷ [])))
-    (c .before .before .add-x-y .ensures ∙ ap (λ (h : Head). mergeRect (rectOf (h .rect)) at) e)
-    (c .plus .ensures
-    ∙ ap (λ (s : ColorSum). sumOf (a .self .sum) ⊕ s) (c .before .one .ensures)
-    ∙ ap (λ (h : Head). sumOf (h .sum) ⊕ one (colorOf (a .c))) e)
+    (c .before .add-x-y .ensures ∙ ap (λ (h : Head). mergeRect (rectOf (h .rect)) at) e)
+    (c .sum-with .ensures ∙ adds-taken (l .before .pre .4)
+    ∙ ap (λ (h : Head). sumOf (h .sum) ⊕ sumOfOne (colorOf (a .c))) e)
 
 pub with-pixel-spec : {M : Type 1} → statement M
 with-pixel-spec =
     tie.close
-    (tie.spec (search needs) (search needs) (search needs) (search needs) (search needs) (λ c κs. rw (c .one .ensures) (c .before .before .before .before .pre .4)) returns)
+    (tie.spec (search needs) (search needs) (search needs) (search needs) (search needs) returns)
