@@ -1,5 +1,7 @@
 // A run and its picture in one call, with demand 3 of what they leave, and the calls for C and Rust over all of the
 // library.
+#![tactic(auto)]
+
 pub mod exports;
 
 ghost use Rattle.std.specs.Prelude.{◌≡◌, ◌*◌, length};

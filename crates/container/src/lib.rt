@@ -1,5 +1,7 @@
 // The picture of the clusters, after container.rs. The buffers may be any, also such that no run made: the call answers
 // the number of the first check that failed, or 0, and a refused call changes nothing.
+#![tactic(auto)]
+
 mod checks;
 mod fill;
 mod halves;

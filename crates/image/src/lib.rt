@@ -1,5 +1,7 @@
 // The size of an image: checks 2 and 3, which every call makes; and the layout of the cluster table, with the lengths
 // of check 5.
+#![tactic(auto)]
+
 pub mod layout;
 
 ghost use Rattle.std.specs.Prelude.{◌≡◌, ◌*◌};

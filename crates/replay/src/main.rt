@@ -1,5 +1,7 @@
 // Replays the recorded answers of the Rust original, which come on standard input, and tries the refusals of every
 // call. Prints how many calls were made and how many went wrong.
+#![tactic(auto)]
+
 mod buffers;
 mod cases;
 mod edges;

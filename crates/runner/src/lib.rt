@@ -1,4 +1,6 @@
 // Colour clusters of an image over buffers that the caller lends: `Runner::run` of visioncortex with `diagonal` off.
+#![tactic(auto)]
+
 mod bound;
 mod builder;
 mod calls;

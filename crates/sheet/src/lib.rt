@@ -1,5 +1,7 @@
 // Rows of a picture, and the stored sheet. The buffers may be any, also such that no run made: every call answers the
 // number of the first check that failed, or 0, and a refused call changes nothing.
+#![tactic(auto)]
+
 mod stored;
 
 ghost use Rattle.std.specs.Prelude.{◌≡◌, length};
