@@ -1,0 +1,25 @@
+use mathlib.Core.Path.{◌≡◌, refl, sym}
+use mathlib.Core.Bool.{false}
+use mathlib.Core.Option.{Option, none, some}
+use lib.IntN.{ℤ}
+use mir.Syntax.{w32}
+use mir.ValLaws.{to_z-of_z}
+use Rattle.rules.specs.Color.{Color, is_same}
+use Rattle.color.proofs.is_same.Goals as goal
+
+-- none is like nothing
+none-like : (s t : ℤ) (o : Option Color) → is_same s t none o ≡ false
+unfolding is_same
+none-like s t none = refl
+none-like s t (some x) = refl
+
+pub returns-in_default : goal.returns-in_default
+returns-in_default c = rw c.in_default.is (sym (none-like _ _ _))
+
+pub returns-in_default-b : goal.returns-in_default-b
+unfolding is_same
+returns-in_default-b c = rw (c.in-Some.is, c.in_default-b.is)
+
+pub returns : goal.returns
+unfolding is_same
+returns c = rw (c.in-Some.is, c.in-Some-b.is) (cc (to_z-of_z w32 _ c.ranges.thres))
