@@ -10,7 +10,7 @@ use crate::quick;
 use color::Color;
 
 // Where three walks along the links stand: pixel numbers plus one. Pixels are painted at x and y; z only goes along.
-#[derive(Drop)]
+#[derive(Clone, Copy)]
 pub(crate) struct Cursors {
     pub(crate) x: u32,
     pub(crate) y: u32,

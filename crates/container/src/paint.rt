@@ -95,7 +95,7 @@ pub(crate) fn clear(picture: &mut [u8])
 }
 
 // A stretch of a list: count pixels along the links from first.
-#[derive(Drop)]
+#[derive(Clone, Copy)]
 struct Stretch {
     first: u32,
     count: u32,

@@ -37,7 +37,7 @@ pub(crate) fn numbers_pass(table: &[u32], outputs: &[u32], size: u32, n: u32, m:
 }
 
 // The rest of a list: its next pixel, plus one, and how many pixels it has. `left` entries have not been taken.
-#[derive(Drop)]
+#[derive(Clone, Copy)]
 struct Lane {
     at: u32,
     count: u32,
@@ -45,7 +45,7 @@ struct Lane {
 }
 
 // The rests of four lists, which are read at once.
-#[derive(Drop)]
+#[derive(Clone, Copy)]
 struct Lanes {
     a0: u32,
     a1: u32,

@@ -9,20 +9,20 @@ ghost use Rattle.container.specs.Code.Leads.{Leads};
 use image::layout;
 
 // Where a walk stands, and how many links it has gone.
-#[derive(Drop)]
+#[derive(Clone, Copy)]
 struct One {
     a: u32,
     moved: u32,
 }
 
-#[derive(Drop)]
+#[derive(Clone, Copy)]
 struct Two {
     a: u32,
     b: u32,
     moved: u32,
 }
 
-#[derive(Drop)]
+#[derive(Clone, Copy)]
 struct Three {
     a: u32,
     b: u32,
@@ -107,7 +107,7 @@ fn walk_three(links: &[u32], size: u32, q: u32, r: u32, a: u32, b: u32, c: u32) 
 }
 
 // Where the walks from first, q and r stop, and how many links each has gone.
-#[derive(Drop)]
+#[derive(Clone, Copy)]
 struct Ends {
     a: u32,
     b: u32,

@@ -5,7 +5,7 @@ ghost use Rattle.rules.specs.State.{is_empty, merge_rect, pixel_rect};
 ghost use Rattle.rules.specs.Code.Bounds.{count_bound};
 ghost use Rattle.runner.specs.Types.{rect_of};
 
-#[derive(Drop)]
+#[derive(Clone, Copy)]
 pub(crate) struct BoundingRect {
     pub(crate) left: u32,
     pub(crate) top: u32,

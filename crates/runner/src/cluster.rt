@@ -83,7 +83,7 @@ pub(crate) fn color(table: &[u32], k: u32) -> Color
 }
 
 // The neighbours found so far: how many, the nearest, and its difference.
-#[derive(Drop)]
+#[derive(Clone, Copy)]
 pub(crate) struct Nearest {
     pub(crate) count: u32,
     pub(crate) target: u32,

@@ -35,7 +35,7 @@ fn stretch(links: &[u32], at: u32, left: u32) -> u32
 }
 
 // What is left of a list: its first pixel, plus one, and the number of its pixels.
-#[derive(Drop)]
+#[derive(Clone, Copy)]
 struct Rest {
     at: u32,
     left: u32,

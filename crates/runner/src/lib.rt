@@ -24,7 +24,7 @@ ghost use Rattle.runner.specs.Types.{config_of};
 use color::Color;
 
 // What is done with pixels of the key colour.
-#[derive(Drop)]
+#[derive(Clone, Copy)]
 pub enum KeyingAction {
     Keep,
     Discard,
@@ -34,7 +34,7 @@ pub enum KeyingAction {
 pub const HIERARCHICAL_MAX: u32 = 4294967295;
 
 // The settings, with the Rust's names. The shift is `is_same_color_a`; the key (0,0,0,0) turns keying off.
-#[derive(Drop)]
+#[derive(Clone, Copy)]
 pub struct RunnerConfig {
     pub is_same_color_a: i32,
     pub is_same_color_b: i32,
@@ -49,7 +49,7 @@ pub struct RunnerConfig {
 
 // The number of the first check that failed, or 0; the numbers of slots and of outputs, 0 where the call is refused.
 #[repr(C)]
-#[derive(Drop)]
+#[derive(Clone, Copy)]
 pub struct Answer {
     pub number: u32,
     pub n: u32,

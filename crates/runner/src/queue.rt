@@ -11,7 +11,7 @@ ghost use Rattle.runner.specs.Code.Queue.{Refreshed, Built, KeySet, First};
 // The key of a slot that is not pending.
 pub(crate) const NONE: u32 = 4294967295;
 
-#[derive(Drop)]
+#[derive(Clone, Copy)]
 pub(crate) struct Entry {
     pub(crate) key: u32,
     pub(crate) slot: u32,
@@ -86,7 +86,7 @@ pub(crate) fn build(queue: &mut [u32], n: usize, room: usize)
 }
 
 // What a node holds, and whether that changed it.
-#[derive(Drop)]
+#[derive(Clone, Copy)]
 pub(crate) struct Taken {
     pub(crate) entry: Entry,
     pub(crate) changed: bool,

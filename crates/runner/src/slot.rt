@@ -13,7 +13,7 @@ use color::{Color, ColorSum};
 use image::layout;
 
 // The first eleven numbers of a slot: list, rectangle, sum.
-#[derive(Drop)]
+#[derive(Clone, Copy)]
 pub(crate) struct Head {
     pub(crate) first: u32,
     pub(crate) count: u32,

@@ -22,7 +22,7 @@ use color::{Color, ColorOrNone};
 
 // What a pixel is compared with: its own colour, and the pixels to the left of it, above it, and to the left of that
 // one; none off the image. Each is read once.
-#[derive(Drop)]
+#[derive(Clone, Copy)]
 struct Seen {
     own: Color,
     left: ColorOrNone,
@@ -31,14 +31,14 @@ struct Seen {
 }
 
 // The next free number, and the number of slots.
-#[derive(Drop)]
+#[derive(Clone, Copy)]
 pub(crate) struct Slots {
     pub(crate) next_index: u32,
     pub(crate) count: u32,
 }
 
 // The labels of left and up as steps 2 to 5 read them, and then next and count.
-#[derive(Drop)]
+#[derive(Clone, Copy)]
 struct Sides {
     left: u32,
     up: u32,
@@ -47,7 +47,7 @@ struct Sides {
 }
 
 // Where a pixel goes: nowhere, or into cluster 0, up's, left's, or a fresh one.
-#[derive(Drop)]
+#[derive(Clone, Copy)]
 enum Into {
     Nowhere,
     Zero,
@@ -57,7 +57,7 @@ enum Into {
 }
 
 // The slot that it goes to, and then next and count.
-#[derive(Drop)]
+#[derive(Clone, Copy)]
 struct Target {
     slot: u32,
     next_index: u32,
@@ -443,7 +443,7 @@ fn take_pixel(
 }
 
 // Next and count after a step, and how many pixels it took.
-#[derive(Drop)]
+#[derive(Clone, Copy)]
 struct Step {
     next_index: u32,
     count: u32,
@@ -500,7 +500,7 @@ fn take_pixels(
 }
 
 // A column and a row.
-#[derive(Drop)]
+#[derive(Clone, Copy)]
 struct Cell {
     x: u32,
     y: u32,

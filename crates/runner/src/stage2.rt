@@ -20,7 +20,7 @@ use super::{bound, builder, cluster, geometry, keying, queue, slot};
 use crate::{HIERARCHICAL_MAX, RunnerConfig};
 
 // What stage 2 carries from turn to turn: slots, outputs, turns made, and the largest pixel count.
-#[derive(Drop)]
+#[derive(Clone, Copy)]
 pub(crate) struct Turns {
     pub(crate) n: u32,
     pub(crate) m: u32,

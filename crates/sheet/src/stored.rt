@@ -242,8 +242,8 @@ pub(crate) fn write(
 )
     requires can_store { CanStore (w * h) n m (length labels.now) (length links.now) (length table.now)
         (length outputs.now) }
-    requires m_value { is_large (stored_numbers w h labels.now links.now table.now outputs.now n m) ≡ false }
-    requires destination_len { length destination.old
+    requires small { is_large (stored_numbers w h labels.now links.now table.now outputs.now n m) ≡ false }
+    requires exact { length destination.old
         ≡ 2 * length (stored_numbers w h labels.now links.now table.now outputs.now n m) }
     ensures { destination.new
         ≡ stored_bytes
