@@ -24,7 +24,7 @@ use Rattle.runner.specs.Code.Slots.{Adds, head_at, head_of, saved_head, residue_
 use Rattle.runner.specs.Code.Rep.{Rep, link_after}
 use Rattle.runner.specs.Code.Ops.{Open, CanAppend, CanMerge, Merged, CanDeepen, Deepened, CanHollow, Hollowed}
 use Rattle.runner.proofs.Ops.{residue-head}
-use Rattle.runner.proofs.Tables.{head_at, residue-at, depth-at, holes-at}
+use Rattle.runner.proofs.Tables.{head-at, residue-at, depth-at, holes-at}
 use Rattle.runner.proofs.RepReads.{root-chain, rep-reads, rep-walk, rep-tail, rep-labels-length, rep-links-length}
 use Rattle.runner.proofs.RepStage2.{rep-merge, rep-deepen}
 use Rattle.runner.proofs.RepHollow.{hole-tail-fits, rep-hollow}
@@ -59,7 +59,7 @@ module _ {o : RunnerConfig} {w h : ℕ} {image : List ℕ} {q : Queue} {k : ℕ}
 
   module _ {t₀ L K B E : List ℕ} (R : Rep (w * h) q.now t₀ L K B E) (fits : slot_width * (w * h + 1) ≤ length t₀) where
     head : (j : ℕ) → j < length q.now.clusters → head_at B j ≡ head_of (cluster q.now j)
-    head j l = head_at s R.tabled j l
+    head j l = head-at s R.tabled j l
 
     open-slot : (j : ℕ) → j < length q.now.clusters → (cluster q.now j).merged_into ≡ 0 → Open j K B E
     open-slot j l r = record {

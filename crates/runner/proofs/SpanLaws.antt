@@ -31,7 +31,7 @@ use Rattle.runner.specs.Code.Spans.{linked_from, CanAddSpan, AddedSpan, Extendin
 use Rattle.runner.specs.Code.Stage1.{Holding, Placing, Taking}
 use Rattle.runner.proofs.Places.{place_in}
 use Rattle.runner.proofs.Spots.{spot_in, near-row}
-use Rattle.runner.proofs.Tables.{head_at}
+use Rattle.runner.proofs.Tables.{head-at}
 use Rattle.runner.proofs.Tails.{link_after-joins}
 use Rattle.runner.proofs.RepStage1.{rep_add, labels-long, links-long}
 use Rattle.runner.proofs.Stage1Laws.{rep-is, can-add}
@@ -155,7 +155,7 @@ module _ {o : RunnerConfig} {w h : ℕ} {image : List ℕ} {shift i x y n k : �
   held-span {L'} {K'} {B'} {E'} z A = go n refl z A
     where
       head : head_at B k ≡ head_of (cluster s k)
-      head = head_at s R.tabled k in-slots
+      head = head-at s R.tabled k in-slots
 
       go : (m : ℕ) → m ≡ n → 0 < m → AddedSpan image k i x y m L K B E L' K' B' E' → Holding (w * h) (taken o w image (w * h) (i + m)) t₀ L' K' B' E' free count
       go zero e z A = absurd (omega arith)
@@ -202,7 +202,7 @@ module _ {o : RunnerConfig} {w h : ℕ} {image : List ℕ} {shift i x y : ℕ} {
 
     both-fit : Adds (sum_of (head_at B k).sum) (sum_from image i n)
     both-fit =
-        let A : Fits (w * h) (sum_of (head_at B k).sum) = subst (λ d. Fits (w * h) (sum_of d.sum)) (sym (head_at (taken o w image (w * h) i) Q.holding.rep.tabled k (omega (arith, to-k, here.room)))) (cluster-fits image Q.given.bytes here.basic k) in
+        let A : Fits (w * h) (sum_of (head_at B k).sum) = subst (λ d. Fits (w * h) (sum_of d.sum)) (sym (head-at (taken o w image (w * h) i) Q.holding.rep.tabled k (omega (arith, to-k, here.room)))) (cluster-fits image Q.given.bytes here.basic k) in
         let C = sum_fits image Q.given.bytes i n in
         let z = Q.given.small in
         let d = inside extending in

@@ -20,7 +20,7 @@ use Rattle.runner.specs.Code.Slots.{Adds, set_numbers, head_at, head_of, saved_h
 use Rattle.runner.specs.Code.Rep.{Table, Rep, slots_of, link_after}
 use Rattle.runner.specs.Code.Ops.{Open, CanAdd, Added, CanAppend, Combined}
 use Rattle.runner.specs.Code.Stage1.{Placing}
-use Rattle.runner.proofs.Tables.{store_in, cleared-length, head_at, count_at}
+use Rattle.runner.proofs.Tables.{store_in, cleared-length, head-at, count_at}
 use Rattle.runner.proofs.Tails.{link_after-empty}
 use Rattle.runner.proofs.RepStage1.{rep_add, rep_begin, rep-combine, labels-long, links-long, list-reads, list-walk, tail-in}
 use Rattle.runner.proofs.Spots.{spot-column, spot-row, spot_in, near-column, near-row}
@@ -78,7 +78,7 @@ module _ {o : RunnerConfig} {w h : ℕ} {image : List ℕ} {shift i x y l u : �
   -- ---- what is read of a slot
 
   head-is : (k : ℕ) → k < s.next_index → head_at B k ≡ head_of (cluster s k)
-  head-is k z = head_at s P.holding.rep.tabled k (in_table k z)
+  head-is k z = head-at s P.holding.rep.tabled k (in_table k z)
 
   count-is : (k : ℕ) → k < s.next_index → (head_at B k).count ≡ area (cluster s k)
   count-is k z = ap (λ d. d.count) (head-is k z)

@@ -138,9 +138,9 @@ module _ (s : State) {n : ℕ} {t₀ t : List ℕ} (T : Table n (slots_of s) t�
   number : (f : ℕ) → f < slot_width → get_or t (slot_width * k + f) 0 ≡ slots_of s k f
   number f b = T.slots k f h b
 
-  pub head_at : head_at t k ≡ head_of (cluster s k)
+  pub head-at : head_at t k ≡ head_of (cluster s k)
   unfolding head_at slot sum_numbers
-  head_at = λ i. record {
+  head-at = λ i. record {
     first = number 0 (lit< tt) i;
     count = number 1 (lit< tt) i;
     rect = record { left = number 2 (lit< tt) i; top = number 3 (lit< tt) i; right = number 4 (lit< tt) i; bottom = number 5 (lit< tt) i };

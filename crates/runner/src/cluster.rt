@@ -124,9 +124,9 @@ fn note(
 ) -> Nearest
     requires notable { l ≢ 0 → Notable table.now (length marks.old) l }
     requires count_bound { found.count < 4294967295 }
-    ensures { record { marks = marks.exit.now; nearest = result }
+    ensures { record { marks = marks.new; nearest = result }
         ≡ noted (diff_from table.now (color_of mine)) own visit l
-        (record { marks = marks.entry.now; nearest = found }) }
+        (record { marks = marks.old; nearest = found }) }
 {
     if (l == 0) | (l == own) {
         return found;
@@ -150,9 +150,9 @@ fn note_four(
 ) -> Nearest
     requires by_index { (i : ℕ) → i < 4 → get_or four i 0 ≢ 0 → Notable table.now (length marks.old) (get_or four i 0) }
     requires count_bound { found.count + 4 ≤ 4294967295 }
-    ensures { record { marks = marks.exit.now; nearest = result }
+    ensures { record { marks = marks.new; nearest = result }
         ≡ noted_four (diff_from table.now (color_of mine)) own visit four
-        (record { marks = marks.entry.now; nearest = found }) }
+        (record { marks = marks.old; nearest = found }) }
 {
     let a = note(table, marks, visit, own, mine, four[0], found);
     let b = note(table, marks, visit, own, mine, four[1], a);
@@ -195,9 +195,9 @@ fn look(
     requires by_index { (i : ℕ) → i < 4 → get_or (map (place_label labels.now) (sides w h p)) i 0 ≢ 0
         → Notable table.now (length marks.old) (get_or (map (place_label labels.now) (sides w h p)) i 0) }
     requires count_bound { found.count + 4 ≤ 4294967295 }
-    ensures { record { marks = marks.exit.now; nearest = result }
+    ensures { record { marks = marks.new; nearest = result }
         ≡ noted_four (diff_from table.now (color_of mine)) own visit
-        (map (place_label labels.now) (sides w h p)) (record { marks = marks.entry.now; nearest = found }) }
+        (map (place_label labels.now) (sides w h p)) (record { marks = marks.old; nearest = found }) }
 {
     if is_inside(labels, w, own, p) {
         return found;

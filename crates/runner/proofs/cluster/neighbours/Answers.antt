@@ -1,0 +1,133 @@
+use mathlib.Core.Path.{◌≡◌, refl, ap, ◌∙◌}
+use mathlib.Core.Logic.{◌≢◌}
+use mathlib.Core.List.{List, ◌∷◌, map, []}
+use mathlib.Core.Option.{Option, some}
+use mathlib.Core.Option.{none as off}
+use Prim.Native.Nat.{ℕ, zero, suc, ◌+◌, ◌-◌, ◌*◌, ◌≤◌, ◌<◌}
+use native.Mathlib.Omega.{arith}
+use lib.ListN.{length, get_or}
+use borrow.Author.Tests.{ne_eqb}
+use Rattle.rules.specs.Color.{Color, average}
+use Rattle.rules.specs.Grid.{sides}
+use Rattle.rules.specs.Layout.{slot_width, first_pixel_place, pixel_count_place}
+use Rattle.rules.specs.Stage2.{labels_at, labels_around}
+use Rattle.rules.proofs.Connected.{AllSome}
+use Rattle.rules.proofs.Labels.{sides-fit}
+use Rattle.runner.specs.Code.Slots.{sum_at}
+use Rattle.runner.specs.Code.Neighbours.{place_label, diff_from, diff_at, nearest_of, Scan, noted_four, Notable, Scannable, Found}
+use Rattle.rules.proofs.Walks.{Step, step, walk_none}
+use Rattle.runner.proofs.Nearest.{each-length, each-count, each_holds}
+use Rattle.runner.proofs.cluster.neighbours.Invariants.{Going}
+use Rattle.runner.proofs.cluster.neighbours.Goals as goal
+use Rattle.runner.proofs.cluster.neighbours.Goals.{In-loop-left}
+
+module _ (labels links table marks : List ℕ) (w h k visit : ℕ) (S : Scannable labels links table marks w h k visit) where
+  begins : Going labels links table marks w h k visit (record { marks = marks; nearest = nearest_of (diff_at table k) [] }) (get_or table (slot_width * k + first_pixel_place) 0) (get_or table (slot_width * k + pixel_count_place) 0)
+  begins = record {
+    kept = refl;
+    readable = S.readable;
+    few = omega (arith, S.few, S.small);
+    found = [];
+    holds = record {
+      rising = tt;
+      marked = λ j. ne_eqb (get_or marks j 0) visit (omega (arith, S.earlier j));
+      low = λ j. omega (arith, S.earlier j);
+      right = refl;
+    };
+    rest = refl;
+  }
+
+  -- the labels at places of the image
+  notable : (is : List (Option ℕ)) → AllSome (λ q. q < w * h) is → (i : ℕ) → get_or (map (place_label labels) is) i 0 ≢ 0 → Notable table (length marks) (get_or (map (place_label labels) is) i 0)
+  notable [] a i n = absurd (n refl)
+  notable (off ∷ is) a zero n = absurd (n refl)
+  notable (some q ∷ is) a zero n = S.notable q a.0 n
+  notable (off ∷ is) a (suc i) n = notable is a.1 i n
+  notable (some q ∷ is) a (suc i) n = notable is a.1 i n
+
+  -- what a turn asks
+  asks : (s : Scan) (at left : ℕ) (four : List ℕ) → 0 < left → four ≡ map (place_label labels) (sides w h (at - 1)) → Going labels links table marks w h k visit s at left
+      → ((i : ℕ) → i < 4 → get_or four i 0 ≢ 0 → Notable table (length s.marks) (get_or four i 0)) × (s.nearest.count + 4 ≤ 4294967295)
+  asks s at left four l e G =
+      let R = step (w * h) links at left l G.readable in
+      let p : at - 1 < w * h = omega (arith, R.some, R.within) in
+      (λ i _. rw (e, G.kept) (notable (sides w h (at - 1)) (sides-fit w h (at - 1) p) i), omega (arith, G.few))
+
+  -- what it gives, with its four labels and the colour of k
+  gives : (s t : Scan) (at left : ℕ) → 0 < left → t ≡ noted_four (diff_at table k) k visit (map (place_label labels) (sides w h (at - 1))) s → Going labels links table marks w h k visit s at left
+      → Going labels links table marks w h k visit t (get_or links (at - 1) 0) (left - 1)
+  unfolding noted_four sides labels_around
+  gives s t at left l e G =
+      let R = step (w * h) links at left l G.readable in
+      let ls = map (place_label labels) (sides w h (at - 1)) in
+      let p : at - 1 < w * h = omega (arith, R.some, R.within) in
+      record {
+        kept = rw e (each-length (diff_at table k) k visit ls s ∙ G.kept);
+        readable = R.rest;
+        few = rw e (omega (arith, each-count (diff_at table k) k visit ls s, G.few));
+        found = labels_at labels k (sides w h (at - 1)) G.found;
+        holds = rw e (each_holds (diff_at table k) k visit labels (w * h) (length marks) (λ q i n. (S.notable q i n).mark) (sides w h (at - 1)) (sides-fit w h (at - 1) p) s G.found G.kept G.holds);
+        rest = rw R.here at G.rest;
+      }
+
+  turn : (s t : Scan) (at left : ℕ) (four : List ℕ) (c : Color) → 0 < left → four ≡ map (place_label labels) (sides w h (at - 1)) → c ≡ average (sum_at table k)
+      → t ≡ noted_four (diff_from table c) k visit four s → Going labels links table marks w h k visit s at left
+      → Going labels links table marks w h k visit t (get_or links (at - 1) 0) (left - 1)
+  turn s t at left four c l e f g G = gives s t at left l (rw (e, f) at g) G
+
+  ends : (s : Scan) (at left : ℕ) → left ≤ 0 → Going labels links table marks w h k visit s at left → Found labels links table w h k visit s.nearest s.marks
+  unfolding labels_around
+  ends s at left l G = record {
+    nearest = G.holds.right ∙ ap (nearest_of (diff_at table k)) (rw (walk_none (λ p. get_or links p 0) at left l) at G.rest);
+    marked = G.holds.low;
+  }
+
+-- the pixel of a turn
+here : (c : In-loop-left) → let a = c.args in Step (a.w * a.h) a.links.now c.loop-left.at c.loop-left.left
+here c = step _ _ _ _ c.loop-left-test.true c.loop-left.invariant.readable
+
+pub color-mine-requires : goal.color-mine-requires
+color-mine-requires c = c.requires.own
+
+pub bounds-table-b : goal.bounds-table-b
+bounds-table-b c = omega (arith, c.requires.own.inside)
+
+pub bounds-table-b-2 : goal.bounds-table-b-2
+bounds-table-b-2 c = omega (arith, c.requires.own.inside)
+
+pub loop-left-init : goal.loop-left-init
+loop-left-init c = begins _ _ _ _ _ _ _ _ c.requires
+
+pub overflow_sub-p : goal.overflow_sub-p
+overflow_sub-p c = (here (goal.at.overflow_sub-p c).In-loop-left).some
+
+pub look-found-requires : goal.look-found-requires
+look-found-requires c =
+    let S = c.requires in
+    let at = here (goal.at.look-found-requires c).In-loop-left in
+    let a = asks _ _ _ _ _ _ _ _ S _ _ _ _ c.loop-left-test.true refl c.loop-left.invariant in
+    record { w_nonzero = (S.width, omega (arith, at.some, at.within), S.labelled, S.small); by_index = a.0; count_bound = a.1 }
+
+pub overflow_cast-at : goal.overflow_cast-at
+overflow_cast-at c = omega (arith, (here (goal.at.overflow_cast-at c).In-loop-left).within, c.requires.small)
+
+pub offset_bounds-links-p : goal.offset_bounds-links-p
+offset_bounds-links-p c = omega (arith, (here (goal.at.offset_bounds-links-p c).In-loop-left).within, c.requires.small)
+
+pub bounds-links-p : goal.bounds-links-p
+bounds-links-p c = omega (arith, (here (goal.at.bounds-links-p c).In-loop-left).some, (here (goal.at.bounds-links-p c).In-loop-left).within, c.requires.linked)
+
+pub overflow_sub-left : goal.overflow_sub-left
+overflow_sub-left c = c.loop-left-test.true
+
+pub loop-left-smaller : goal.loop-left-smaller
+loop-left-smaller c = omega (arith, c.loop-left-test.true)
+
+pub loop-left-preserved : goal.loop-left-preserved
+loop-left-preserved c = turn _ _ _ _ _ _ _ _ c.requires _ _ _ _ _ _ c.loop-left-test.true refl c.color-mine.ensures c.look-found.ensures c.loop-left.invariant
+
+pub shape_of-marks : goal.shape_of-marks
+shape_of-marks c = c.loop-left.invariant.kept
+
+pub returns : goal.returns
+returns c = ends _ _ _ _ _ _ _ _ c.requires _ _ _ c.loop-left-test.false c.loop-left.invariant

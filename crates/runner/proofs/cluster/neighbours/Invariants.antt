@@ -1,0 +1,27 @@
+use mathlib.Core.Path.{◌≡◌}
+use mathlib.Core.List.{List, []}
+use Prim.Native.Nat.{ℕ, ◌+◌, ◌-◌, ◌*◌, ◌≤◌}
+use lib.Dec.{T}
+use lib.ListN.{length, get_or}
+use borrow.Author.Rules.{rules}
+use Rattle.rules.specs.Layout.{walk}
+use Rattle.rules.specs.Paint.{reads}
+use Rattle.rules.specs.Stage2.{labels_around}
+use Rattle.runner.specs.Code.Neighbours.{diff_at, Scan, list_at}
+use Rattle.runner.proofs.Nearest.{Holds}
+use Rattle.runner.proofs.cluster.neighbours.Given as goal
+
+-- The scan with `left` more pixels to come, from `at`: with the labels around these, what is found is what the rules find.
+pub record Going (labels links table marks : List ℕ) (w h k visit : ℕ) (s : Scan) (at left : ℕ) : Type 0 where
+  pub kept : length s.marks ≡ length marks
+  pub readable : T (reads (w * h) links at left)
+  pub few : s.nearest.count + 4 * left ≤ 8000000
+  pub found : List ℕ
+  pub holds : Holds (diff_at table k) visit s found
+  pub rest : labels_around w h labels k (walk (λ p. get_or links p 0) at left) found ≡ labels_around w h labels k (list_at links table k) []
+
+abbrev pub invariant-loop-left : goal.invariant-loop-left
+invariant-loop-left l = Going l.labels l.links l.table l.initial.marks l.w l.h l.k l.visit (record { marks = l.marks; nearest = l.found }) l.at l.left
+
+abbrev pub decreases-loop-left : goal.decreases-loop-left
+decreases-loop-left l = l.left

@@ -1,0 +1,32 @@
+use Prim.Native.Nat.{◌+◌, ◌-◌, ◌≤◌, ◌<◌}
+use native.Mathlib.Omega.{arith}
+use lib.ListN.{length}
+use Rattle.rules.specs.Code.Bounds.{count_bound}
+use Rattle.runner.proofs.Labels.{next-step, stretch-in, relabels-one, relabels-stretch}
+use Rattle.runner.proofs.labelling.relabel_stretch.Goals as goal
+use Rattle.runner.proofs.labelling.relabel_stretch.Goals.{After-shared_slice_known-1, After-stretch-n}
+
+-- the first pixel of the list
+first : (c : After-shared_slice_known-1) → (let a = c.args in (1 ≤ a.at) × (a.at ≤ length a.labels.now) × (a.at ≤ length a.links.now) × (a.at < count_bound))
+first c =
+    let C = c.requires.can_relabel in
+    let s = next-step C c.requires.left_nonzero in
+    (s.some, s.within, omega (arith, s.within, C.links), omega (arith, s.within, C.small))
+
+-- the last pixel of the stretch
+last : (c : After-stretch-n) → (let a = c.args in a.at - 1 + c.stretch-n.result < length a.labels.now)
+last c = stretch-in c.requires.can_relabel c.stretch-n.result c.stretch-n.ensures.0 c.stretch-n.ensures.1
+
+pub fill-requires : goal.fill-requires
+fill-requires c = (omega (arith, last (goal.at.fill-requires c).After-stretch-n, first (goal.at.fill-requires c).After-shared_slice_known-1), omega (arith, last (goal.at.fill-requires c).After-stretch-n, first (goal.at.fill-requires c).After-shared_slice_known-1, c.requires.can_relabel.small))
+
+pub bounds-links-at-then-after-at : goal.bounds-links-at-then-after-at
+bounds-links-at-then-after-at c = omega (arith, last (goal.at.bounds-links-at-then-after-at c).After-stretch-n, c.requires.can_relabel.links)
+
+pub returns-then-after-at : goal.returns-then-after-at
+returns-then-after-at c = let z = c.stretch-n.ensures in (omega (arith, z.0), rw c.fill.ensures (relabels-stretch c.requires.can_relabel _ z.0 z.1 _))
+
+pub returns : goal.returns
+returns c =
+    let more = c.requires.left_nonzero in
+    (omega (arith, more), relabels-one c.requires.can_relabel _ more)

@@ -1,0 +1,50 @@
+use mathlib.Core.Path.{◌≡◌, refl, sym, ap, ◌∙◌}
+use mathlib.Core.List.{List}
+use Prim.Native.Nat.{ℕ, zero, suc, ◌+◌, ◌-◌, ◌≤◌, ◌<◌}
+use native.Mathlib.Omega.{arith}
+use lib.ListN.{length, get_or, set}
+use Rattle.rules.specs.Color.{ColorSum}
+use Rattle.rules.specs.State.{Cluster, with_cluster}
+use Rattle.rules.specs.Code.Spans.{set_from, sum_from, span_rect, span_of}
+use Rattle.rules.proofs.Spans.{first-up_from, length-up_from}
+use Rattle.rules.specs.Code.Bounds.{sum_bound}
+use Rattle.color.specs.Colors.{sum_of}
+use Rattle.color.specs.declared.ColorSum as declared
+use Rattle.runner.specs.declared.slot.Head.{Head}
+use Rattle.runner.specs.Types.{rect_of}
+use Rattle.runner.specs.Code.Slots.{Adds, head_at, head_of, saved_head}
+use Rattle.runner.specs.Code.Rep.{link_after}
+use Rattle.runner.specs.Code.Spans.{linked_from, CanAddSpan, AddedSpan}
+use Rattle.runner.proofs.Slots.{head-is}
+use Rattle.runner.proofs.spans.add_span.Goals as goal
+
+-- the span as a slot's head
+span_head : (image : List ℕ) (i x y n : ℕ) (h : Head) → 0 < n → h.first ≡ i + 1 → h.count ≡ n → rect_of h.rect ≡ span_rect x y n → sum_of h.sum ≡ sum_from image i n → h ≡ head_of (span_of image i x y n)
+unfolding span_of
+span_head image i x y zero h l a b d e = absurd (omega arith)
+span_head image i x y (suc n) h l a b d e = head-is (span_of image i x y (suc n)) (a ∙ sym (first-up_from i n)) (b ∙ sym (length-up_from i (suc n))) d e
+
+-- with the head that is loaded
+module _ {image : List ℕ} {k i x y n : ℕ} {L K B E : List ℕ} {s : Head} (loaded : s ≡ head_at B k) (p : CanAddSpan image k i x y n L K B E) where
+  -- what is asked where the span is linked, and where it is added
+  asks-link : 0 < s.count → (0 < get_or E k 0) × (get_or E k 0 ≤ length K)
+  asks-link = rw loaded p.room.tail
+
+  asks-sum : {z : declared.ColorSum} → sum_of z ≡ sum_from image i n → (s.count + n < sum_bound) × Adds (sum_of s.sum) (sum_of z)
+  asks-sum e = rw (loaded, e) (omega (arith, p.room.count, p.small.0), p.sum)
+
+  -- the span is added
+  added : {K₁ K₂ B₂ L₂ : List ℕ} {r g : Head} → L₂ ≡ set_from L i n k → K₁ ≡ link_after K s.count (get_or E k 0) (i + 1) → K₂ ≡ linked_from K₁ i (n - 1)
+      → g ≡ head_of (span_of image i x y n) → ((t f : Cluster) → s ≡ head_of t → g ≡ head_of f → r ≡ head_of (with_cluster f t)) → B₂ ≡ saved_head B k r
+      → AddedSpan image k i x y n L K B E L₂ K₂ B₂ (set E k (i + n))
+  added a b d e f g = record {
+    labels = a;
+    links = d ∙ ap (λ ks. linked_from ks i (n - 1)) (b ∙ ap (λ h. link_after K h.count (get_or E k 0) (i + 1)) loaded);
+    table = λ t q. g ∙ ap (saved_head B k) (f t _ (loaded ∙ q) e);
+    ends = refl;
+  }
+
+pub returns : goal.returns
+unfolding span_rect
+returns c = added c.load_head-s.ensures c.requires c.fill.ensures c.link_after.ensures c.chain_links.ensures
+    (span_head _ _ _ _ _ _ c.requires.some refl refl refl c.sum_colors.ensures) c.with_cluster.ensures c.save_head.ensures

@@ -1,0 +1,9 @@
+use Prim.Native.Nat.{◌-◌}
+use Rattle.runner.proofs.Prepare.{prepare-next, prepare-done}
+use Rattle.runner.proofs.stage2.prepare_stage_2.Goals as goal
+
+pub loop-k-preserved : goal.loop-k-preserved
+loop-k-preserved c = prepare-next c.loop-k.invariant c.loop-k-test.true c.prepare_slot-largest.auto.table c.prepare_slot-largest.ensures
+
+pub returns : goal.returns
+returns c = prepare-done c.loop-k.invariant c.loop-k-test.false
