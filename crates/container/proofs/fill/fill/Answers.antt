@@ -1,0 +1,12 @@
+use mathlib.Core.Path.{◌∙◌}
+use Prim.Native.Nat.{◌-◌}
+use native.Mathlib.Omega.{arith}
+use Rattle.container.proofs.Covered.{begins-more, begins-all}
+use Rattle.container.proofs.fill.fill.Goals as goal
+
+pub loop-p-preserved : goal.loop-p-preserved
+loop-p-preserved c = let v = c.loop-p.invariant in
+    (c.paint_pixel.auto.picture ∙ v.0, rw c.paint_pixel.ensures (begins-more _ _ _ (omega (arith, v.0, c.loop-p-test.true)) v.1))
+
+pub returns : goal.returns
+returns c = let v = c.loop-p.invariant in begins-all _ _ _ v.0 (λ p h. v.1 p (omega (arith, c.loop-p-test.false)))

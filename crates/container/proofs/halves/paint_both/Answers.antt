@@ -1,0 +1,29 @@
+use Prim.Native.Nat.{◌≤◌, ◌<◌}
+use native.Mathlib.Omega.{arith}
+use Rattle.rules.proofs.Walks.{step}
+use Rattle.container.proofs.Stretches.{going-turn, going-ends, both-none, both-turn}
+use Rattle.container.proofs.halves.paint_both.Goals as goal
+use Rattle.container.proofs.halves.paint_both.Goals.{In-loop-left}
+
+on-y : (c : In-loop-left) → (let y = c.loop-left.y in (0 < y) × (y ≤ c.args.size))
+on-y c = let s = step _ _ _ _ c.loop-left-test.true c.loop-left.invariant.2.rest in (s.some, s.within)
+
+pub paint_pixel-requires-in-loop-left : goal.paint_pixel-requires-in-loop-left
+paint_pixel-requires-in-loop-left c = omega (arith, on-y (goal.at.paint_pixel-requires-in-loop-left c).In-loop-left, c.paint_pixel.auto.picture, c.loop-left.invariant.0, c.requires)
+
+pub bounds-links-q : goal.bounds-links-q
+bounds-links-q c = omega (arith, on-y (goal.at.bounds-links-q c).In-loop-left)
+
+pub loop-left-preserved : goal.loop-left-preserved
+loop-left-preserved c = let v = c.loop-left.invariant in
+    let h = c.loop-left-test.true in (
+      omega (arith, c.paint_pixel-in-loop-left.auto.picture, c.paint_pixel.auto.picture, v.0),
+      going-turn _ _ _ _ _ _ h v.1,
+      going-turn _ _ _ _ _ _ h v.2,
+      rw (c.paint_pixel-in-loop-left.ensures, c.paint_pixel.ensures) (rw (both-turn _ _ _ _ _ _ _ h v.1.rest v.2.rest) at v.3),
+    )
+
+pub returns : goal.returns
+returns c = let v = c.loop-left.invariant in
+    let h = c.loop-left-test.false in
+    (going-ends _ _ _ _ _ _ h v.2, rw (both-none _ _ _ _ _ _ h) at v.3)
