@@ -23,7 +23,9 @@ if [ -n "${COLOR_CLUSTERS_LIB:-}" ]; then
     say "linking the archive in $COLOR_CLUSTERS_LIB"
 elif command -v rt >/dev/null; then
     say "proving and compiling the library"
-    (cd .. && rt staticlib color_clusters)
+    (cd ../crates/color_clusters_c && rt lib)
+    mkdir -p ../target/staticlib
+    cp ../crates/color_clusters_c/out/libcolor_clusters_c.a ../target/staticlib/libcolor_clusters.a
 else
     say "there is no rt; linking the archive that is there"
 fi

@@ -9,7 +9,7 @@
 #   FUZZ_FAULT=short reference/fuzz.sh 60         each buffer shorter than told: must be found
 #   FUZZ_FAULT=expectation reference/fuzz.sh 60   a wrong expectation: must be found
 #
-# The library is compiled once more from the LLVM module of which rt makes the archive: rt is given a
+# The library is compiled once more from the LLVM module of which rt makes the archive: rt is run in a
 # folder in which all is the toolchain's own, but a clang that keeps the module first.
 set -eu
 
@@ -17,11 +17,16 @@ say() {
     echo "fuzz: $*"
 }
 
-# linked FOLDER NAME: links all of the toolchain's FOLDER into $kit but NAME.
+# linked FOLDER NAME..: links all of the toolchain's FOLDER into $kit but these.
 linked() {
-    mkdir -p "$kit/$1"
-    for there in "$home/$1"/*; do
-        [ "$(basename "$there")" = "$2" ] || ln -s "$there" "$kit/$1/"
+    folder=$1
+    shift
+    mkdir -p "$kit/$folder"
+    for there in "$home/$folder"/*; do
+        case " $* " in
+        *" $(basename "$there") "*) ;;
+        *) ln -s "$there" "$kit/$folder/" ;;
+        esac
     done
 }
 
@@ -33,27 +38,29 @@ install clang-14 libclang-rt-14-dev
 
 out=$PWD/target/fuzz
 mkdir -p "$out/corpus" "$out/lib"
-home=${RATTLE_HOME:-$(dirname "$(dirname "$(readlink -f "$(command -v rt)")")")}
-own=on/$(uname -m)
-clang=$home/$own/toolchain/bin/clang
+home=$(dirname "$(dirname "$(readlink -f "$(command -v rt)")")")
+clang=$home/toolchain/bin/clang
 kit=$(mktemp -d)
 trap 'rm -rf "$kit"' EXIT
-linked . on
-linked "$own" toolchain
-linked "$own/toolchain" bin
-linked "$own/toolchain/bin" clang
-cat >"$kit/$own/toolchain/bin/clang" <<END
+# rt takes for the toolchain's folder the one above its own file, which therefore is no link.
+cp -r "$home/bin" "$kit/bin"
+linked . bin toolchain
+linked toolchain bin
+linked toolchain/bin clang
+cat >"$kit/toolchain/bin/clang" <<END
 #!/bin/sh
-cp module.bc "$out/module.bc"
+[ ! -f module.bc ] || cp module.bc "$out/module.bc"
 exec "$clang" "\$@"
 END
-chmod +x "$kit/$own/toolchain/bin/clang"
+chmod +x "$kit/toolchain/bin/clang"
 
 say "proving and compiling the library"
 archive=target/staticlib/libcolor_clusters.a
 rm -f "$out/module.bc" "$out/before.a"
 [ ! -f "$archive" ] || cp "$archive" "$out/before.a"
-RATTLE_HOME=$kit rt staticlib color_clusters >"$out/log" || { tail -n 5 "$out/log"; exit 1; }
+(cd crates/color_clusters_c && "$kit/bin/rt" lib) >"$out/log" || { tail -n 5 "$out/log"; exit 1; }
+mkdir -p "${archive%/*}"
+cp crates/color_clusters_c/out/libcolor_clusters_c.a "$archive"
 if [ -f "$out/before.a" ]; then
     cmp "$archive" "$out/before.a" && say "its archive is the one that was there, byte for byte"
 fi

@@ -20,14 +20,10 @@ ROOT = pathlib.Path(__file__).resolve().parent.parent
 JUDGE = ROOT / "reference/target/release/judge"
 
 HEAD = """-- Throw-away claims.
-use mathlib.Core.Path.{_≡_, refl}
-use mathlib.Core.List.{List, [], _∷_}
-use Prim.Native.Nat.{ℕ}
-use lib.IntN.{pos, negsuc}
-use lib.ListN.{replicate}
-use Rattle·rules·specs.specs.Color.{RunnerConfig, rgba, Keep, Discard}
-use Rattle·rules·specs.specs.Run.{stage1}
-use Rattle·rules·specs.specs.Calls.{run_call, paint_call}
+use Rattle.std.specs.Prelude.{◌≡◌, refl, List, [], ◌∷◌, ℕ, pos, negsuc, replicate}
+use Rattle.rules.specs.Color.{RunnerConfig, rgba, Keep, Discard}
+use Rattle.rules.specs.Run.{stage1}
+use Rattle.rules.specs.Calls.{run_call, paint_call}
 
 """
 
@@ -77,7 +73,7 @@ ran{i} : run_call settings{i} {w} {h} image{i} (record {{ {entry} }})
 unfolding run_call
 ran{i} = refl
 
-first{i} : stage1 settings{i} {w} {h} image{i} .labels ≡ {numbers(answer['stage_1_labels'])}
+first{i} : (stage1 settings{i} {w} {h} image{i}).labels ≡ {numbers(answer['stage_1_labels'])}
 unfolding stage1
 first{i} = refl
 
@@ -98,7 +94,7 @@ def check(cases, answers):
         with open(crate / "specs/Lib.antt", "a") as f:
             f.write("pub mod Tried\n")
         (crate / "specs/Tried.antt").write_text(HEAD + "".join(claim(i, c, a) for i, (c, a) in enumerate(zip(cases, answers))))
-        done = subprocess.run(["rt", "check", "rules"], cwd=folder, capture_output=True, text=True)
+        done = subprocess.run(["rt", "check"], cwd=crate, capture_output=True, text=True)
         if done.returncode != 0:
             print("\n".join(l[:400] for l in (done.stdout + done.stderr).split("\n") if re.search(r"error|not-proved", l)), file=sys.stderr)
         return done.returncode == 0

@@ -36,7 +36,7 @@ from wrong_definitions.syntax import File, squeeze
 
 ROOT = pathlib.Path(__file__).resolve().parent.parent
 SPECS = pathlib.Path("crates/rules/specs")
-LIBRARY = "Rattle·rules·specs.specs"  # what the path of each module begins with
+LIBRARY = "Rattle.rules.specs"  # what the path of each module begins with
 LISTED = ROOT / "reference/wrong_definitions.txt"
 # Examples, and what only code and proofs need: a wrong definition there misleads no reader of the rules.
 EXCLUDED = {"Examples", "Code"}
@@ -68,7 +68,7 @@ class Workshop:
 
     def check(self, seconds=SECONDS * len(COPIES)):
         """What the checker refuses in each copy, by module and name; None where it does not come to an answer."""
-        run = subprocess.Popen(["rt", "dev", "rules"], cwd=self.folder, stdout=subprocess.PIPE,
+        run = subprocess.Popen(["rt", "check"], cwd=self.folder / SPECS.parent, stdout=subprocess.PIPE,
                                stderr=subprocess.STDOUT, text=True, start_new_session=True)
         try:
             said = run.communicate(timeout=seconds)[0]
@@ -92,7 +92,7 @@ class Workshop:
         text, names, copy = file.text, {}, COPIES[0]
         for number, wrong in reversed(list(enumerate(wrongs))):
             old, new = wrong.definition.name, f"{wrong.definition.name}-wrong-{number}"
-            if "_" in old:
+            if "◌" in old:
                 continue  # an operator has no second name
             names[new] = wrong
             at = wrong.definition.tokens[-1].end

@@ -22,8 +22,8 @@ from concurrent.futures import ThreadPoolExecutor
 
 ROOT = pathlib.Path(__file__).resolve().parent.parent
 EDITS = ROOT / "reference/wrong_readings"
-# Where it ends, no edit broke what the compiler was told to assume, and its answers count.
-BUILD = "the native program with LLVM's assumptions checked"
+# What `rt try` says of the build in which the compiler's assumptions are checked while it runs: no edit broke them, and its answers count.
+ENDED = "checked: ended status=0"
 SECONDS = 300
 
 
@@ -66,23 +66,23 @@ def apply(folder, replacements):
 def copy(folder):
     for name in ["crates.txt", "crates"]:
         source = ROOT / name
-        (shutil.copytree if source.is_dir() else shutil.copy)(source, folder / name)
+        if source.is_dir():
+            shutil.copytree(source, folder / name, ignore=shutil.ignore_patterns("out"))
+        else:
+            shutil.copy(source, folder / name)
 
 
 def replay(folder):
     """What `replay` printed."""
-    done = subprocess.run(["rt", "try", "replay"], cwd=folder, capture_output=True, text=True, timeout=SECONDS)
-    said = done.stdout + done.stderr
-    if BUILD not in said:
-        raise BadEdit("the code does not compile: " + said.strip()[:2000])
-    right = (folder / "crates/replay/stdout").read_text()
-    if f"ok: {BUILD}" in said:
-        return right
-    how = re.search(rf"FAIL: {BUILD} (.*)\n(?:on standard output, at byte (\d+), .* found \"(.*)\")?", said)
-    printed = right[:int(how[2])] + how[3] if how and how[2] else ""
-    if "sheets at the edges" not in printed:
-        raise BadEdit("it does not come to its end: " + (how[1] if how else said[:2000]))
-    return printed
+    crate = folder / "crates/replay"
+    with open(crate / "stdin", "rb") as answers:
+        done = subprocess.run(["rt", "try", "--seconds", str(SECONDS)], cwd=crate, stdin=answers, capture_output=True, text=True, timeout=2 * SECONDS)
+    said = (done.stdout + done.stderr).strip()[:2000]
+    if "run=none" in done.stderr:
+        raise BadEdit("the code does not compile: " + said)
+    if ENDED not in done.stderr or "sheets at the edges" not in done.stdout:
+        raise BadEdit("it does not come to its end: " + said)
+    return done.stdout
 
 
 def outcome(printed):

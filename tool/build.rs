@@ -17,7 +17,8 @@ fn main() {
     }
 }
 
-/// Where `rt` writes the archive, below the repository's root: the folder with the list of crates.
+/// Where `./sheet` and `reference/archive.sh` put the archive, below the repository's root: the folder with the list of
+/// crates.
 fn usual_folder() -> PathBuf {
     let here = Path::new(env!("CARGO_MANIFEST_DIR"));
     let root = here
@@ -34,7 +35,7 @@ fn link(folder: &Path) {
 fn stop(absent: &Path) -> ! {
     eprintln!(
         "The proved library is not at {}.\n\
-         Run `rt staticlib color_clusters` at the repository's root first, or set\n\
+         Run `./sheet` or `reference/archive.sh` at the repository's root first, or set\n\
          COLOR_CLUSTERS_LIB to the folder that has {ARCHIVE}, as an absolute path.",
         absent.display()
     );

@@ -1,7 +1,7 @@
 """Makes wrong definitions: every definition changed in one place at a time."""
 import collections
 
-from .syntax import Node, depths, parse, squeeze, tokenize
+from .syntax import Node, depths, is_field, parse, squeeze, tokenize
 
 # the tokens at .. to - 1 become the text `new`, which uses these names
 Change = collections.namedtuple("Change", "at to new uses")
@@ -15,7 +15,7 @@ FAMILIES = [["leb", "ltb", "eqb"], ["min", "max"], ["take", "drop"], ["true", "f
 SWAPPED = {"-", "/", "%", "^", "++"}  # the operators whose operands are swapped: for others it changes nothing
 SYMMETRIC = {"eqb", "min", "max"}  # nor for these functions
 TYPES = {"set": "List ℕ → ℕ → ℕ → List ℕ", "take": "ℕ → List ℕ → List ℕ", "drop": "ℕ → List ℕ → List ℕ",
-         "not": "Bool → Bool", "getD": "List ℕ → ℕ → ℕ → ℕ", "replicate": "ℕ → ℕ → List ℕ", "min": "ℕ → ℕ → ℕ",
+         "not": "Bool → Bool", "get_or": "List ℕ → ℕ → ℕ → ℕ", "replicate": "ℕ → ℕ → List ℕ", "min": "ℕ → ℕ → ℕ",
          "max": "ℕ → ℕ → ℕ", "leb": "ℕ → ℕ → Bool", "ltb": "ℕ → ℕ → Bool", "eqb": "ℕ → ℕ → Bool"}
 CONSTRUCTORS = {"true", "false", "some", "none", "off", "zero", "suc", "pos", "negsuc", "[]", "∷"}
 COMPARISONS = {"leb", "ltb", "eqb"}
@@ -27,7 +27,10 @@ def is_group(tokens):
 
 def operand(text):
     """The text as one operand or argument."""
-    return text if " " not in text or is_group(tokenize(text)) else f"({text})"
+    tokens = tokenize(text)
+    while len(tokens) > 1 and is_field(tokens[-1].text):
+        tokens.pop()
+    return text if len(tokens) == 1 or is_group(tokens) else f"({text})"
 
 
 def next_and_last(entries, entry):
@@ -223,7 +226,7 @@ class Rules:
         for at, to, new in sorted(edits, reverse=True):
             text = text[:at] + new + text[to:]
         alone = text[definition.tokens[0].start:definition.tokens[-1].end + len(text) - len(file.text)]
-        names = {n if n in self.libraries else f"_{n}_" for n in change.uses} - file.scope
+        names = {n if n in self.libraries else f"◌{n}◌" for n in change.uses} - file.scope
         return text, alone, {f"use {self.libraries[n]}.{{{n}}}\n" for n in names if n in self.libraries}
 
 

@@ -10,6 +10,7 @@ Node = collections.namedtuple("Node", "kind at to parts")  # the tokens at .. to
 INFIX = {"→": (1, 1), "×": (2, 1), "≡": (3, 0), "||": (4, 1), "&&": (5, 1), "∷": (6, 1), "++": (6, 1), "+": (7, 0),
          "-": (7, 0), "⊕": (7, 0), "*": (8, 0), "/": (8, 0), "%": (8, 0), "^": (9, 1)}
 KEYWORDS = {"if", "then", "else", "let", "in", "λ", "=", ")", "{", "}", ";"}
+PROJECTED = re.compile(r"[^\s.]*(?:\.[^\W\d][\w']*)+")  # a word and fields of it, or fields of what is in brackets
 
 
 def tokenize(text):
@@ -19,15 +20,22 @@ def tokenize(text):
         for found in re.finditer(r"[(){};]|[^\s(){};]+", line):
             if found[0].startswith("--"):
                 break
-            tokens.append(Token(found[0], offset + found.start(), offset + found.end(), found.start(), first))
-            first = False
+            parts = re.findall(r"\.?[^.]+", found[0]) if PROJECTED.fullmatch(found[0]) else [found[0]]
+            column = found.start()
+            for part in parts:
+                tokens.append(Token(part, offset + column, offset + column + len(part), column, first))
+                column, first = column + len(part), False
         offset += len(line)
     return tokens
 
 
 def squeeze(tokens):
-    """The text of tokens with one space between them, none inside brackets."""
-    return re.sub(r"(?<=\() | (?=[);])", "", " ".join(t.text for t in tokens))
+    """The text of tokens with one space between them, none inside brackets or before a field."""
+    return re.sub(r"(?<=\() | (?=[);]|\.[^\W\d])", "", " ".join(t.text for t in tokens))
+
+
+def is_field(text):
+    return text[:1] == "." and text[1:2] not in ("", ".")
 
 
 def depths(tokens):
@@ -88,7 +96,7 @@ def clause(item, name, kinds):
         if depth == 0 and t.text != ")":
             found.append([])
         found[-1].append(t)
-    own = [name] + name.split("_")
+    own = [name] + name.split("◌")
     return Clause([p for p in found if p[0].text not in own], right, name, kinds)
 
 
@@ -200,15 +208,17 @@ class Parser:
     def application(self):
         at, parts = self.at, [self.atom()]
         while self.word() and self.word() not in KEYWORDS and self.word() not in INFIX:
-            if self.word().startswith("."):  # of all that stands before it
-                before = self.node("apply", at, *parts) if len(parts) > 1 else parts[0]
-                self.at += 1
-                parts = [self.node("field", at, before)]
-            else:
-                parts.append(self.atom())
+            parts.append(self.atom())
         return self.node("apply", at, *parts) if len(parts) > 1 else parts[0]
 
     def atom(self):
+        at, found = self.at, self.whole()
+        while is_field(self.word()):
+            self.at += 1
+            found = self.node("field", at, found)
+        return found
+
+    def whole(self):
         at, word = self.at, self.word()
         self.at += 1
         if word == "(":

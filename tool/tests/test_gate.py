@@ -9,10 +9,10 @@ from scripts import *
 STAND_INS = {
     **DEBIAN,
     "python3": f'exec "{sys.executable}" "$@"',
-    "rt": """echo "rt $*" >>"$LOG"
+    "rt": """echo "rt $* in ${PWD##*/}" >>"$LOG"
         case $1 in
-        ci) echo 'rt: proving'; echo '5 passed, 0 failed' ;;
-        staticlib) mkdir -p target/staticlib; touch target/staticlib/libcolor_clusters.a ;;
+        ci) echo 'rt: proving'; echo 'rt: ok; handles allowed: none; must-fail edits: 3 refused'; echo '5 passed, 0 failed' ;;
+        lib) mkdir -p out; touch "out/lib${PWD##*/}.a" ;;
         esac""",
     "cargo": """echo "cargo $1 in ${PWD##*/}" >>"$LOG"
         mkdir -p "$CARGO_TARGET_DIR/release"
@@ -43,9 +43,9 @@ class Gate(ScriptCase):
         super().setUp()
         self.copy(".ci/run", "sheet", "tool/test.sh", "tool/tests/run.py", "tool/tests/support.py")
         self.copy("reference/packages.sh", "reference/setup.sh")
-        for file in ["tool/src/main.rs", "tool/Cargo.toml", "tool/build.rs", "tool/.cargo/config.toml", "crates/rules/src/lib.rt"]:
+        for file in ["tool/src/main.rs", "tool/Cargo.toml", "tool/build.rs", "tool/.cargo/config.toml", "crates/rules/src/lib.rt", "crates/color_clusters_c/src/lib.rt"]:
             self.write(file)
-        self.write("crates.txt", "rules:\n")
+        self.write("crates.txt", "rules:\ncolor_clusters_c staticlib: rules\n")
         for name in ("one", "two"):
             self.write(f"tool/tests/test_{name}.py", GROUP.format(alone="pass"))
         self.original = self.folder / "shared/docs/src"
@@ -72,13 +72,14 @@ class Gate(ScriptCase):
         tests = [f"unit tests: {UNIT} passed, 0 failed", f"reference: {REFERENCE} passed, 0 failed"]
         groups = ["one: 2 passed, 0 failed", "two: 2 passed, 0 failed", "all groups: 4 passed, 0 failed"]
         library, tool = f"{LIBRARY} passed, 0 failed", f"{UNIT + REFERENCE + 4} passed, 0 failed"
-        self.assertEqual(lines, ["rt: proving", library, *tests, *groups, tool])
-        self.assertEqual(called[:3], ["rt ci", "rt staticlib color_clusters", "cargo build in tool"])
+        ended = "rt: ok; handles allowed: none; must-fail edits: 3 refused"
+        self.assertEqual(lines, ["rt: proving", ended, library, *tests, *groups, tool])
+        self.assertEqual(called[:3], ["rt ci in repository", "rt lib in color_clusters_c", "cargo build in tool"])
 
     def test_the_archive_that_was_proved_is_tested(self):
         self.environment["COLOR_CLUSTERS_LIB"] = str(self.folder)
         called, _ = self.gate(passed=LIBRARY + UNIT + REFERENCE + 4)
-        self.assertIn("rt staticlib color_clusters", called)
+        self.assertIn("rt lib in color_clusters_c", called)
 
     def test_where_the_library_fails_the_tool_is_not_tested(self):
         for says, end, passed, failed in [
@@ -94,6 +95,20 @@ class Gate(ScriptCase):
                 self.assertEqual((called, lines[-1]), ([], "gate: the tool's tests were not run, since rt ci did not pass"))
         (self.programs / "rt").unlink()
         self.gate(status=1, passed=0, failed=1)
+
+    def test_edits_that_are_bad_are_a_failure(self):
+        end = "handles allowed: none; must-fail edits:"
+        kept = "done in this run: 0 of the 9 proofs (of crates and of their tests)"
+        for says, bad in [("3 refused, 1 bad", 1), ("3 refused, 2 of them only by a limit, 12 bad", 12), (f"0 refused, 2 bad; {kept}", 2)]:
+            with self.subTest(says):
+                self.stand_in("rt", f"echo 'rt: ok; {end} {says}'; echo '5 passed, 0 failed'")
+                called, lines = self.gate(status=1, passed=LIBRARY, failed=bad)
+                self.assertEqual(called, [])
+                self.assertIn(f"gate: {bad} of the must-fail edits are bad", lines)
+        for says in ("3 refused", "3 refused, 0 bad", f"3 refused; {kept}", "3 refused, 2 of them only by a limit"):
+            with self.subTest(says):
+                self.stand_in("rt", STAND_INS["rt"].replace("3 refused", says))
+                self.gate(passed=LIBRARY + UNIT + REFERENCE + 4)
 
     def test_a_test_that_fails(self):
         self.write("tool/tests/test_two.py", GROUP.format(alone="self.fail('on purpose')"))
@@ -127,7 +142,7 @@ class Gate(ScriptCase):
                 _, lines = self.gate(status=1, passed=LIBRARY, failed=1)
                 self.assertIn("error: no", lines)
         self.stand_in("cargo", STAND_INS["cargo"])
-        self.stand_in("rt", "if [ $1 = staticlib ]; then exit 1; fi\n" + STAND_INS["rt"])
+        self.stand_in("rt", "if [ $1 = lib ]; then exit 1; fi\n" + STAND_INS["rt"])
         (self.root / "target/staticlib/libcolor_clusters.a").unlink()
         self.gate(status=1, passed=LIBRARY, failed=1)
 
@@ -137,7 +152,7 @@ class Gate(ScriptCase):
         self.assertEqual([line for line in lines if line.startswith("test: installing")], [f"test: installing {missing}"])
         self.assertEqual(sum("not run" in line for line in lines), 1)
         self.assertRegex(lines[-1], rf"^test: the tool's tests were not run, since Debian's packages can't be had \({why}\)$")
-        self.assertEqual(called, ["rt ci"])
+        self.assertEqual(called, ["rt ci in repository"])
 
     def test_where_packages_can_not_be_had(self):
         self.installed.write_text("")

@@ -388,9 +388,9 @@ def in_c(declaration):
 
 class Declared(unittest.TestCase):
     def test_the_functions_are_those_that_the_library_exports(self):
-        source = (ROOT / "crates/color_clusters/src/exports.rt").read_text()
+        source = (ROOT / "crates/color_clusters_c/src/lib.rt").read_text()
         exported = re.findall(r'pub extern "C" fn (\w+)\(([^)]*)\) -> (\w+)', source)
-        self.assertEqual(len(exported), source.count("#[no_mangle]"))
+        self.assertEqual(len(exported), source.count("#[unsafe(no_mangle)]"))
         bare = re.sub(r"\s+", " ", re.sub(r"/\*.*?\*/", " ", HEADER, flags=re.S))
         declarations = re.findall(r"(\w+ color_clusters_\w+\([^()]*\));", bare)
         expected = []

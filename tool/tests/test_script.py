@@ -5,12 +5,12 @@ from scripts import *
 
 FILES = [
     "tool/src/main.rs", "tool/Cargo.toml", "tool/build.rs", "tool/.cargo/config.toml", "crates.txt", "crates/rules/src/lib.rt",
-    "crates/rules/specs/Lib.antt",
+    "crates/rules/specs/Lib.antt", "crates/color_clusters_c/src/lib.rt",
 ]
 
 STAND_INS = {
     **DEBIAN,
-    "rt": 'echo "rt $*" >>"$LOG"; mkdir -p target/staticlib; touch target/staticlib/libcolor_clusters.a; echo proving',
+    "rt": 'echo "rt $* in ${PWD##*/}" >>"$LOG"; mkdir -p out; echo "made by rt" >"out/lib${PWD##*/}.a"; echo proving',
     "cargo": """echo "cargo $* in ${PWD##*/} with $COLOR_CLUSTERS_LIB" >>"$LOG"
         mkdir -p "$CARGO_TARGET_DIR/release"
         printf '#!/bin/sh\\necho "ran: $*"; exit 7\\n' >"$CARGO_TARGET_DIR/release/sheet"
@@ -38,7 +38,8 @@ class Script(ScriptCase):
 
     def test_from_nothing_and_then_quietly(self):
         called, said, printed = self.script("make", "a b.png", "c.png")
-        self.assertEqual(called[0], "rt staticlib color_clusters")
+        self.assertEqual(called[0], "rt lib in color_clusters_c")
+        self.assertEqual((self.root / "target/staticlib/libcolor_clusters.a").read_text(), "made by rt\n")
         self.assertEqual(called[1], f"cargo build --release --offline --quiet in tool with {self.root}/target/staticlib")
         self.assertEqual(len(called), 2)
         self.assertIn("proving", said)

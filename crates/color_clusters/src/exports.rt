@@ -1,4 +1,4 @@
-// The calls for C and Rust: include/color_clusters.h declares them. A slice is a pointer and then a length.
+// The calls for C and Rust, settings one by one: `color_clusters_c` exports each under its name.
 ghost use Rattle.std.specs.Prelude.{◌≡◌, length};
 ghost use Rattle.rules.specs.Refusals.{row_answer};
 ghost use Rattle.rules.specs.Calls.{as_buffers, answered, with_picture, run_call, paint_call, run_and_paint_call, store_call};
@@ -58,9 +58,8 @@ fn config(
     }
 }
 
-#[unsafe(no_mangle)]
 // `runner::run`, with the settings one by one.
-pub extern "C" fn color_clusters_run(
+pub fn color_clusters_run(
     is_same_color_a: i32,
     is_same_color_b: i32,
     hierarchical: u32,
@@ -107,9 +106,8 @@ pub extern "C" fn color_clusters_run(
     runner::run(o, w, h, image, labels, links, table, outputs, work)
 }
 
-#[unsafe(no_mangle)]
 // `run_and_paint`, with the settings one by one.
-pub extern "C" fn color_clusters_run_and_paint(
+pub fn color_clusters_run_and_paint(
     is_same_color_a: i32,
     is_same_color_b: i32,
     hierarchical: u32,
@@ -161,9 +159,8 @@ pub extern "C" fn color_clusters_run_and_paint(
     crate::run_and_paint(o, w, h, image, labels, links, table, outputs, work, picture)
 }
 
-#[unsafe(no_mangle)]
 // `container::to_color_image`.
-pub extern "C" fn color_clusters_paint(
+pub fn color_clusters_paint(
     w: u32,
     h: u32,
     links: &[u32],
@@ -179,17 +176,15 @@ pub extern "C" fn color_clusters_paint(
     container::to_color_image(w, h, links, table, outputs, picture, n, m)
 }
 
-#[unsafe(no_mangle)]
 // `sheet::row_check`.
-pub extern "C" fn color_clusters_row_check(w: u32, h: u32, picture: &[u8], y: u32) -> u32
+pub fn color_clusters_row_check(w: u32, h: u32, picture: &[u8], y: u32) -> u32
     ensures { result ≡ row_answer w h (length picture.now) y }
 {
     sheet::row_check(w, h, picture, y)
 }
 
-#[unsafe(no_mangle)]
 // `sheet::store`.
-pub extern "C" fn color_clusters_store(
+pub fn color_clusters_store(
     w: u32,
     h: u32,
     labels: &[u32],

@@ -8,6 +8,7 @@ use crate::trials;
 use crate::trials::{LARGEST, PICTURE, Trial};
 use color::Color;
 use runner::{Answer, KeyingAction, RunnerConfig};
+use std::io::{self, Read};
 
 // At most so many bytes has the stored sheet of an image.
 const SHEET: usize = 28812;
@@ -199,20 +200,20 @@ struct Progress {
 }
 
 // Replays the next case. After one that was not run, none is.
-fn step(window: &mut [u8], r: Progress) -> Progress {
+fn step<R: Read>(input: &mut R, window: &mut [u8], r: Progress) -> io::Result<Progress> {
     let before = r.place;
-    let p = refill(window, before, LONGEST);
+    let p = refill(input, window, before, LONGEST)?;
     let c = replay_case(part(window, 0, p.have), p.at);
     let ran = c.at <= p.have;
     let place = Place {
         at: c.at,
         have: p.have,
     };
-    Progress {
+    Ok(Progress {
         place,
         skipped: count(r.skipped, !ran),
         differ: count(r.differ, ran & !c.same),
-    }
+    })
 }
 
 // What came of a replay: the cases that are recorded, those that were not run, those that differ, and the bytes after
@@ -226,8 +227,8 @@ pub struct Replayed {
 }
 
 // Replays all cases.
-pub(crate) fn replay(window: &mut [u8]) -> Replayed {
-    let start = refill(window, begin(), LONGEST);
+pub(crate) fn replay<R: Read>(input: &mut R, window: &mut [u8]) -> io::Result<Replayed> {
+    let start = refill(input, window, begin(), LONGEST)?;
     let first = number(window, start.at);
     let cases = first.value;
     let place = Place {
@@ -241,15 +242,15 @@ pub(crate) fn replay(window: &mut [u8]) -> Replayed {
     };
     let mut i = 0;
     while i < cases {
-        r = step(window, r);
+        r = step(input, window, r)?;
         i += 1;
     }
     let last = r.place;
-    let end = refill(window, last, LONGEST);
-    Replayed {
+    let end = refill(input, window, last, LONGEST)?;
+    Ok(Replayed {
         cases: cases as u64,
         skipped: r.skipped,
         differ: r.differ,
         left: left_over(end),
-    }
+    })
 }

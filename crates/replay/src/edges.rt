@@ -32,7 +32,7 @@ const COLORS: usize = 36;
 
 // A call: the counts, the lengths that are lent (bytes: of the picture or the destination), two numbers that are
 // changed, the number that it has to answer and, where it paints, how many pixels.
-#[derive(Drop)]
+#[derive(Clone, Copy)]
 struct Edge {
     w: u32,
     h: u32,

@@ -10,34 +10,42 @@ mod refusals;
 mod sheets;
 mod trials;
 
+use std::io;
+
 // Writes two counts, each with the words after it.
-fn print_counts(first: u64, words: &[u8], second: u64, end: &[u8]) {
-    io::print_decimal(1, first);
-    io::write_all(1, words);
-    io::print_decimal(1, second);
-    io::write_all(1, end);
+fn print_counts(
+    rt: &impl Print,
+    first: u64,
+    words: &str,
+    second: u64,
+    end: &str,
+) -> io::Result<()> {
+    print!(rt; "{first}{words}{second}{end}")
 }
 
 // Writes what came of the replay.
-fn print_replayed(r: cases::Replayed) {
-    print_counts(r.cases, b" recorded cases, ", r.skipped, b" skipped, ");
-    print_counts(r.differ, b" differ, ", r.left, b" bytes left over\n");
+fn print_replayed(rt: &impl Print, r: cases::Replayed) -> io::Result<()> {
+    print_counts(rt, r.cases, " recorded cases, ", r.skipped, " skipped, ")?;
+    print_counts(rt, r.differ, " differ, ", r.left, " bytes left over\n")
 }
 
-// The window holds more than the longest case.
-fn main() {
+// The window holds more than the longest case. A read or a write that fails ends the program with its error.
+fn main(rt: HostRuntime) -> io::Result<()> {
     let mut window = [0u8; 81920];
-    print_replayed(cases::replay(&mut window));
+    let mut input = rt.reader();
+    print_replayed(&rt, cases::replay(&mut input, &mut window)?)?;
     print_counts(
+        &rt,
         refusals::CALLS,
-        b" runs at the edges of the refusals, ",
+        " runs at the edges of the refusals, ",
         refusals::all(&window),
-        b" wrong\n",
-    );
+        " wrong\n",
+    )?;
     print_counts(
+        &rt,
         edges::CALLS,
-        b" pictures, rows and sheets at the edges of the refusals, ",
+        " pictures, rows and sheets at the edges of the refusals, ",
         edges::all(),
-        b" wrong\n",
-    );
+        " wrong\n",
+    )
 }

@@ -1,5 +1,7 @@
 // Reading the recorded answers: numbers, and a window that moves over standard input.
-ghost use Rattle.std.specs.Prelude.{◌≤◌, length};
+ghost use Rattle.std.specs.Prelude.{◌≤◌, length, IfOk};
+
+use std::io::{self, Read};
 
 // A number that was read, and the place after it.
 #[derive(Drop)]
@@ -109,21 +111,41 @@ fn move_down(s: &mut [u8], from: usize, end: usize) -> usize
     to
 }
 
+// Reads until buf is full or the input ends, and answers how many bytes it put at the start of buf.
+fn read_full<R: Read>(input: &mut R, buf: &mut [u8]) -> io::Result<usize>
+    ensures { IfOk result (λ n. n ≤ length buf.new) }
+{
+    let mut done = 0;
+    while done < buf.len() {
+        let n = input.read(&mut buf[done..])?;
+        if n == 0 {
+            break;
+        }
+        done += n;
+    }
+    Ok(done)
+}
+
 // Where fewer than `enough` bytes are left to be read, drops those that have been, and fills the window up.
-pub(crate) fn refill(window: &mut [u8], p: Place, enough: usize) -> Place {
+pub(crate) fn refill<R: Read>(
+    input: &mut R,
+    window: &mut [u8],
+    p: Place,
+    enough: usize,
+) -> io::Result<Place> {
     if p.have < p.at {
-        return p;
+        return Ok(p);
     }
     if enough <= p.have - p.at {
-        return p;
+        return Ok(p);
     }
     let left = move_down(window, p.at, p.have);
     if window.len() < left {
-        return begin();
+        return Ok(begin());
     }
-    let more = io::read_full(0, &mut window[left..]);
-    Place {
+    let more = read_full(input, &mut window[left..])?;
+    Ok(Place {
         at: 0,
         have: left + more,
-    }
+    })
 }

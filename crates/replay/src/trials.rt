@@ -13,7 +13,7 @@ pub(crate) const PICTURE: usize = 9600;
 // A call: its settings and size, the bytes of its image by where they begin and end, whether it paints, the lengths
 // that it is lent, and what it has to leave: what is recorded after the image, or else this number and, where that
 // refuses it, nothing new.
-#[derive(Drop)]
+#[derive(Clone, Copy)]
 pub struct Trial {
     pub o: RunnerConfig,
     pub w: u32,

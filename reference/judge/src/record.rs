@@ -213,13 +213,13 @@ impl Reader<'_> {
 mod tests {
     use super::*;
 
-    const COMMITTED: &[u8] = include_bytes!("../../answers.bin");
+    const COMMITTED: &[u8] = include_bytes!("../../../crates/replay/stdin");
 
     #[test]
     fn the_record_is_the_same_each_time() {
         assert!(
             encode(&recorded()) == COMMITTED,
-            "answers.bin is out of date"
+            "crates/replay/stdin is out of date"
         );
     }
 

@@ -9,7 +9,7 @@ use judge::{record, tell};
 
 use crate::Failure;
 
-const DEFAULT_PATH: &str = "answers.bin";
+const DEFAULT_PATH: &str = "../crates/replay/stdin";
 
 pub fn help() -> String {
     format!(
