@@ -47,7 +47,7 @@ def sources():
     for folder in ["crates", "docs", "include", "reference", "tool"]:
         for path in sorted((ROOT / folder).rglob("*")):
             inside = path.relative_to(ROOT)
-            if path.suffix in kinds and "target" not in inside.parts:
+            if path.suffix in kinds and not {"target", "out"} & set(inside.parts):
                 yield str(inside), path.read_text()
     for name in ["README.md", "sheet", ".ci/run"]:
         yield name, (ROOT / name).read_text()

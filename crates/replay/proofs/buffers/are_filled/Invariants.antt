@@ -1,8 +1,6 @@
-use Rattle.std.proofs.Common.{◌-◌, length}
+-- The loop goes to the end of the buffer.
+use Rattle.std.specs.Prelude.{◌-◌, length}
 use Rattle.replay.proofs.buffers.are_filled.Given as goal
-
-abbrev pub invariant-loop-i : goal.invariant-loop-i
-invariant-loop-i l = Unit {0}
 
 abbrev pub decreases-loop-i : goal.decreases-loop-i
 decreases-loop-i l = length l.bytes - l.i

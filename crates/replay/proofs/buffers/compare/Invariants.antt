@@ -1,4 +1,5 @@
-use Rattle.std.proofs.Common.{◌-◌, ◌≤◌, length}
+-- The buffer has n numbers.
+use Rattle.std.specs.Prelude.{◌-◌, ◌≤◌, length}
 use Rattle.replay.proofs.buffers.compare.Given as goal
 
 abbrev pub invariant-loop-i : goal.invariant-loop-i

@@ -1,4 +1,5 @@
-use Rattle.std.proofs.Common.{◌≡◌, ◌-◌, ◌≤◌, length}
+-- The buffer keeps its length, which is at least k.
+use Rattle.std.specs.Prelude.{◌≡◌, ◌-◌, ◌≤◌, length}
 use Rattle.replay.proofs.buffers.filled_bytes.Given as goal
 
 abbrev pub invariant-loop-i : goal.invariant-loop-i

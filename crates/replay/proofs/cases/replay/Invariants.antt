@@ -1,5 +1,5 @@
 -- The window keeps its length.
-use Rattle.std.proofs.Common.{◌≡◌, ◌-◌, length}
+use Rattle.std.specs.Prelude.{◌≡◌, ◌-◌, length}
 use Rattle.replay.proofs.cases.replay.Given as goal
 
 abbrev pub invariant-loop-i : goal.invariant-loop-i

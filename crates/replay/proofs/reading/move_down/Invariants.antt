@@ -1,4 +1,5 @@
-use Rattle.std.proofs.Common.{◌≡◌, ◌-◌, ◌≤◌, length}
+-- The bytes keep their number, and what is written lies before what is read.
+use Rattle.std.specs.Prelude.{◌≡◌, ◌-◌, ◌≤◌, length}
 use Rattle.replay.proofs.reading.move_down.Given as goal
 
 abbrev pub invariant-loop-at : goal.invariant-loop-at

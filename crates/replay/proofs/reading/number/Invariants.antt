@@ -1,4 +1,5 @@
-use Rattle.std.proofs.Common.{◌-◌, ◌<◌, length}
+-- A shift stays below the width.
+use Rattle.std.specs.Prelude.{◌-◌, ◌<◌, length}
 use Rattle.replay.proofs.reading.number.Given as goal
 
 abbrev pub invariant-loop-at : goal.invariant-loop-at

@@ -1,8 +1,6 @@
-use Rattle.std.proofs.Common.{◌-◌}
+-- The loop goes to the last call.
+use Rattle.std.specs.Prelude.{◌-◌}
 use Rattle.replay.proofs.refusals.all.Given as goal
-
-abbrev pub invariant-loop-k : goal.invariant-loop-k
-invariant-loop-k l = Unit {0}
 
 abbrev pub decreases-loop-k : goal.decreases-loop-k
 decreases-loop-k l = 124 - l.k

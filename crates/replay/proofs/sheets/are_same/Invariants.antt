@@ -1,4 +1,5 @@
-use Rattle.std.proofs.Common.{◌≡◌, ◌-◌, length}
+-- The loop goes to the end of the buffer.
+use Rattle.std.specs.Prelude.{◌≡◌, ◌-◌, length}
 use Rattle.replay.proofs.sheets.are_same.Given as goal
 
 abbrev pub invariant-loop-i : goal.invariant-loop-i

@@ -1,8 +1,6 @@
-use Rattle.std.proofs.Common.{◌-◌}
+-- The loop goes to the last number.
+use Rattle.std.specs.Prelude.{◌-◌}
 use Rattle.replay.proofs.sheets.are_stored.Given as goal
-
-abbrev pub invariant-loop-n : goal.invariant-loop-n
-invariant-loop-n l = Unit {0}
 
 abbrev pub decreases-loop-n : goal.decreases-loop-n
 decreases-loop-n l = l.count - l.n
