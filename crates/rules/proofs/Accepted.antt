@@ -1,4 +1,5 @@
 -- What an accepted call has passed: an answer of 0 taken apart into the facts that its checks ask for.
+use Rattle.std.specs.Prelude.{if◌then◌else◌}
 use mathlib.Core.Path.{◌≡◌, refl, sym, ◌∙◌, subst}
 use mathlib.Core.Bool.{Bool, true, false, not, ◌||◌}
 use mathlib.Core.List.{List, [], ◌∷◌, ◌++◌}
@@ -7,7 +8,6 @@ use native.Mathlib.Nat.{mul-pos}
 use native.Mathlib.Omega.{arith}
 use borrow.Author.Tests.{eqb-false, eqb-true, ltb-false, not-false}
 use lib.Dec.{T, ltb, eqb}
-use Rattle.rules.specs.Base.{if◌then◌else◌}
 use Rattle.rules.specs.Color.{RunnerConfig}
 use Rattle.rules.specs.Refusals.{Check, refusal, first_failed, size_checks, not_four_each, run_checks, limit, bad_shift, table_length, outputs_length, work_length, short_sheet, bad_counts, run_answer, run_and_paint_answer}
 use Rattle.rules.specs.Code.Accepted.{GoodSize, Accepted}

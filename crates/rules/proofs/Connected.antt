@@ -1,4 +1,5 @@
 -- A cluster with no neighbour, on an image where no label is 0, covers the image.
+use Rattle.std.specs.Prelude.{if◌then◌else◌}
 use mathlib.Core.Path.{◌≡◌, refl, sym, ap, ◌∙◌, subst}
 use mathlib.Core.Logic.{◌≢◌, ◌⊎◌, inl, inr}
 use mathlib.Core.Bool.{Bool, true, false, ◌||◌}
@@ -11,7 +12,7 @@ use native.Mathlib.Omega.{arith}
 use borrow.Author.Tests.{eqb-true}
 use lib.Dec.{eqb, ltb, leb, le→leb, lt→ltb}
 use lib.ListN.{get_or}
-use Rattle.rules.specs.Base.{if◌then◌else◌, insert_once}
+use Rattle.rules.specs.Base.{insert_once}
 use Rattle.rules.specs.Color.{RunnerConfig}
 use Rattle.rules.specs.Grid.{up, down, left, right, sides}
 use Rattle.rules.specs.State.{State, cluster, label}

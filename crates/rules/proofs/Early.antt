@@ -1,4 +1,5 @@
 -- Stage 1: what holds after i pixels, and that stage 2 starts from it.
+use Rattle.std.specs.Prelude.{if◌then◌else◌}
 use mathlib.Core.Path.{◌≡◌, refl, sym, ap, ◌∙◌, subst, fun_ext}
 use mathlib.Core.Logic.{◌≢◌, ◌⊎◌, inl, inr, by_cases}
 use mathlib.Core.Bool.{Bool, true, false, not, ◌&&◌, ◌||◌, true≢false}
@@ -12,7 +13,7 @@ use borrow.Author.Tests.{eqb-true, leb-true, ltb-false, ltb-true}
 use lib.Dec.{T, not_T, eqb, ltb, leb, ltb→lt, lt→ltb, nltb→le}
 use lib.ListN.{length, get_or, set, replicate, length-set, length-append, length-replicate, get_or-append, get_or-eq_default, get_or-map, length-map}
 use lib.Seq.{get_or-set_same, get_or-set_other, get_or-append_seam}
-use Rattle.rules.specs.Base.{if◌then◌else◌, times}
+use Rattle.rules.specs.Base.{times}
 use Rattle.rules.specs.Color.{Color, RunnerConfig, sum_of_one, ◌⊕◌, pixel, is_discard}
 use Rattle.rules.specs.Grid.{up, left, up_left}
 use Rattle.rules.specs.State.{State, Cluster, BoundingRect, new_cluster, cluster, label, area, pixel_rect, with_pixel, with_cluster, emptied, with_residue, fresh, add_pixel, begin_cluster, combine_clusters, added, plain}

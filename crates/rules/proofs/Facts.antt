@@ -1,4 +1,5 @@
 -- Tests, counts and totals.
+use Rattle.std.specs.Prelude.{if◌then◌else◌}
 use mathlib.Core.Path.{◌≡◌, refl, sym, ap, ◌∙◌, subst}
 use mathlib.Core.Logic.{◌≢◌, ◌⊎◌, inl, inr, by_cases}
 use mathlib.Core.Bool.{Bool, true, false, not, ◌&&◌, ◌||◌, true≢false}
@@ -10,7 +11,7 @@ use native.Mathlib.Omega.{arith}
 use lib.Dec.{T, not_T, eqb, eqb→eq, eqb_refl}
 use lib.ListN.{length, get_or, set, length-set}
 use lib.Seq.{get_or-set_same, get_or-set_other}
-use Rattle.rules.specs.Base.{if◌then◌else◌, keep}
+use Rattle.rules.specs.Base.{keep}
 use Rattle.rules.specs.Color.{ColorSum, zero_sum, sum_of_one, ◌⊕◌, pixel}
 use Rattle.rules.specs.State.{relabel}
 use Rattle.rules.specs.Claim.{bit, occurs, tally, count_of}

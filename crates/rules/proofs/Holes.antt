@@ -1,4 +1,5 @@
 -- Hole children: a cluster that names one is the cluster it deepened into, and names it once; a cluster that deepened never changes again.
+use Rattle.std.specs.Prelude.{if◌then◌else◌}
 use mathlib.Core.Path.{◌≡◌, refl, sym, ap, ◌∙◌, subst}
 use mathlib.Core.Logic.{◌≢◌, by_cases}
 use mathlib.Core.Bool.{Bool, true, false}
@@ -8,7 +9,6 @@ use native.Mathlib.Decide.{ℕ_discrete, dec_lt}
 use native.Mathlib.Omega.{arith}
 use lib.Dec.{eqb}
 use lib.ListN.{length, get_or, get_or-eq_default}
-use Rattle.rules.specs.Base.{if◌then◌else◌}
 use Rattle.rules.specs.Color.{RunnerConfig}
 use Rattle.rules.specs.State.{State, new_cluster, cluster, label, area, emptied, with_cluster, merged_to, deeper, with_residue, put_out, merge_cluster_into, deepen_cluster_into}
 use Rattle.rules.specs.Stage2.{prepare_stage2, visit}

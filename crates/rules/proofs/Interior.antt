@@ -1,5 +1,6 @@
 -- The boundary of a visited cluster is smaller than its area exactly when some pixel of its list has all four neighbours in it: the hole list does
 -- not matter. This holds where the least area is at least 1, since each hole child then passed the same test.
+use Rattle.std.specs.Prelude.{if◌then◌else◌}
 use mathlib.Core.Path.{◌≡◌, refl, sym, ap, ◌∙◌, subst}
 use mathlib.Core.Logic.{◌≢◌, ◌⊎◌, inl, inr}
 use mathlib.Core.Bool.{Bool, true, false, not, ◌&&◌, ◌||◌, true≢false}
@@ -10,7 +11,7 @@ use native.Mathlib.Omega.{arith}
 use borrow.Author.Tests.{eqb-false, ltb-true}
 use lib.Dec.{T, eqb, eqb→eq, ltb, lt→ltb, ltb→lt}
 use lib.ListN.{length, get_or}
-use Rattle.rules.specs.Base.{if◌then◌else◌, member, keep}
+use Rattle.rules.specs.Base.{member, keep}
 use Rattle.rules.specs.Color.{RunnerConfig, hierarchical_max, exceeds}
 use Rattle.rules.specs.Grid.{sides}
 use Rattle.rules.specs.State.{State, cluster, label, area, emptied, with_cluster, merged_to, deeper, with_residue, put_out, merge_cluster_into, deepen_cluster_into, plain, deepened}

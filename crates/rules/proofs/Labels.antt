@@ -1,4 +1,5 @@
 -- The claim of demand 3 before every turn, and the list of a cluster inside no other told by the labels.
+use Rattle.std.specs.Prelude.{if◌then◌else◌}
 use mathlib.Core.Path.{◌≡◌, refl, sym, ap, ap₂, ◌∙◌, subst}
 use mathlib.Core.Bool.{Bool, true, false, not, ◌&&◌, ◌||◌}
 use mathlib.Core.List.{List, [], ◌∷◌}
@@ -8,7 +9,7 @@ use native.Mathlib.Nat.{div-lt_iff_lt-mul, mul_comm, mul-suc, mul-le-mul_left, d
 use native.Mathlib.Omega.{arith}
 use borrow.Author.Tests.{ltb-true}
 use lib.Dec.{T, eqb, ltb, leb, eqb→eq}
-use Rattle.rules.specs.Base.{if◌then◌else◌, member}
+use Rattle.rules.specs.Base.{member}
 use Rattle.rules.specs.Grid.{up, down, left, right, sides}
 use Rattle.rules.specs.Color.{RunnerConfig, is_discard}
 use Rattle.rules.specs.State.{State, cluster, label}

@@ -1,4 +1,5 @@
 -- "No larger area is listed" is "no slot has a larger pixel count".
+use Rattle.std.specs.Prelude.{if◌then◌else◌}
 use mathlib.Core.Path.{◌≡◌, refl, ap, ◌∙◌, subst}
 use mathlib.Core.Logic.{◌⊎◌, inl, inr}
 use mathlib.Core.Bool.{Bool, true, false}
@@ -8,7 +9,7 @@ use native.Mathlib.Decide.{ℕ_discrete, dec_lt}
 use native.Mathlib.Omega.{arith}
 use lib.Dec.{T, eqb, ltb, leb, leb→le, le→leb}
 use lib.ListN.{length, get_or, length-append}
-use Rattle.rules.specs.Base.{if◌then◌else◌, none_above, insert_once}
+use Rattle.rules.specs.Base.{none_above, insert_once}
 use Rattle.rules.specs.Color.{RunnerConfig}
 use Rattle.rules.specs.State.{State, Cluster, new_cluster, cluster, label, area, emptied, merged_to, with_residue, put_out, merge_cluster_into, deepen_cluster_into}
 use Rattle.rules.specs.Stage2.{areas_of, prepare_stage2, visit}

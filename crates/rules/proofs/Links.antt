@@ -1,4 +1,5 @@
 -- What a merge does to the links: the last pixel of `to` is linked to the first of `from`, and nothing else changes.
+use Rattle.std.specs.Prelude.{if◌then◌else◌}
 use mathlib.Core.Path.{◌≡◌, refl, sym, ap, ◌∙◌}
 use mathlib.Core.Logic.{◌≢◌, by_cases}
 use mathlib.Core.Bool.{Bool, true, false}
@@ -8,7 +9,6 @@ use native.Mathlib.Decide.{ℕ_discrete}
 use native.Mathlib.Omega.{arith}
 use lib.Dec.{T, eqb}
 use lib.ListN.{length}
-use Rattle.rules.specs.Base.{if◌then◌else◌}
 use Rattle.rules.specs.State.{State, cluster, label}
 use Rattle.rules.specs.Layout.{after, first_of, link}
 use Rattle.rules.specs.Ledger.{Held}

@@ -1,4 +1,5 @@
 -- The area of every standing cluster that is inside no other is listed, so a pass at an area that is not listed does nothing.
+use Rattle.std.specs.Prelude.{if◌then◌else◌}
 use mathlib.Core.Path.{◌≡◌, refl, sym, ap, ◌∙◌, subst}
 use mathlib.Core.Logic.{◌≢◌, ◌⊎◌, inl, inr}
 use mathlib.Core.Bool.{Bool, true, false}
@@ -8,7 +9,7 @@ use native.Mathlib.Omega.{arith}
 use borrow.Author.Tests.{eqb-true}
 use lib.Dec.{T, eqb, ltb}
 use lib.ListN.{length, get_or}
-use Rattle.rules.specs.Base.{if◌then◌else◌, times, insert_once}
+use Rattle.rules.specs.Base.{times, insert_once}
 use Rattle.rules.specs.Color.{RunnerConfig}
 use Rattle.rules.specs.State.{State, Cluster, new_cluster, cluster, label, area, with_cluster, merged_to, deeper, with_residue, put_out, merge_cluster_into, deepen_cluster_into}
 use Rattle.rules.specs.Stage2.{areas_of, prepare_stage2, visit, pass, passes}

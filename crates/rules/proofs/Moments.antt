@@ -1,4 +1,5 @@
 -- Every moment of a run agrees with the ledger of its own log, and which states are moments.
+use Rattle.std.specs.Prelude.{if◌then◌else◌}
 use mathlib.Core.Path.{◌≡◌, refl, sym, ap, ◌∙◌, subst}
 use mathlib.Core.Logic.{◌↔◌, ◌≢◌, ◌⊎◌, inl, inr, by_cases}
 use mathlib.Core.Bool.{Bool, true, false, ◌&&◌}
@@ -9,7 +10,7 @@ use native.Mathlib.Omega.{arith}
 use borrow.Author.Tests.{ltb-true}
 use lib.Dec.{T, ltb, lt→ltb}
 use lib.ListN.{length}
-use Rattle.rules.specs.Base.{if◌then◌else◌, times}
+use Rattle.rules.specs.Base.{times}
 use Rattle.rules.specs.Color.{RunnerConfig, keying_on}
 use Rattle.rules.specs.State.{State, Event, cluster, label, area, put_out, merge_cluster_into, deepen_cluster_into, added, plain, deepened}
 use Rattle.rules.specs.Stage2.{visit, pass, passes, prepare_stage2}

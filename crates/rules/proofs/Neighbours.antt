@@ -1,4 +1,5 @@
 -- The neighbours of a cluster as a set, their number, and the target as the least by difference and number: what a scan with marks finds.
+use Rattle.std.specs.Prelude.{if◌then◌else◌}
 use mathlib.Core.Path.{◌≡◌, refl, sym, ap, ap₂, ◌∙◌, subst}
 use mathlib.Core.Logic.{◌↔◌, ◌≢◌, ◌⊎◌, inl, inr, by_cases}
 use mathlib.Core.Bool.{Bool, true, false, ◌||◌}
@@ -10,7 +11,7 @@ use native.Mathlib.Omega.{arith}
 use borrow.Author.Tests.{eqb-false, eqb-true, ltb-false, ltb-true}
 use lib.Dec.{T, eqb, ltb, eqb→eq}
 use lib.ListN.{length, get_or}
-use Rattle.rules.specs.Base.{if◌then◌else◌, member, insert_once, least}
+use Rattle.rules.specs.Base.{member, insert_once, least}
 use Rattle.rules.specs.Color.{RunnerConfig, ◌⊕◌}
 use Rattle.rules.specs.Grid.{sides}
 use Rattle.rules.specs.State.{State, cluster, label}

@@ -1,4 +1,5 @@
 -- Stage 2 is repeated picking of the least pending slot.
+use Rattle.std.specs.Prelude.{if◌then◌else◌}
 use mathlib.Core.Path.{◌≡◌, refl, sym, ap, ◌∙◌, subst}
 use mathlib.Core.Logic.{◌≢◌, ◌⊎◌, inl, inr, by_cases}
 use mathlib.Core.Bool.{Bool, true, false, not, ◌&&◌}
@@ -11,7 +12,7 @@ use borrow.Author.Tests.{eqb-false, eqb-true, ltb-false, ltb-true}
 use lib.Dec.{T, eqb, ltb, lt→ltb}
 use lib.ListN.{length, get_or, set, length-set, length-append, length-map, get_or-map, get_or-eq_default}
 use lib.Seq.{get_or-set_same, get_or-set_other}
-use Rattle.rules.specs.Base.{if◌then◌else◌, times}
+use Rattle.rules.specs.Base.{times}
 use Rattle.rules.specs.Color.{RunnerConfig, keying_on}
 use Rattle.rules.specs.State.{State, Event, new_cluster, cluster, area, emptied, merged_to, with_residue, put_out, merge_cluster_into, deepen_cluster_into, plain, deepened}
 use Rattle.rules.specs.Stage2.{neighbours, by_neighbours, visit, pass, passes, prepare_stage2}

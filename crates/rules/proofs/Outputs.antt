@@ -1,4 +1,5 @@
 -- With no label 0 on the image, every standing cluster is put out, and the first output that holds a pixel owns it.
+use Rattle.std.specs.Prelude.{if◌then◌else◌}
 use mathlib.Core.Path.{◌≡◌, refl, sym, ap, ap₂, ◌∙◌, subst}
 use mathlib.Core.Logic.{◌≢◌, ◌⊎◌, inl, inr, by_cases}
 use mathlib.Core.Bool.{Bool, true, false, ◌||◌}
@@ -8,7 +9,7 @@ use native.Mathlib.Decide.{ℕ_discrete}
 use native.Mathlib.Omega.{arith}
 use lib.Dec.{T, eqb, leb, le→leb}
 use lib.ListN.{length, get_or, length-append}
-use Rattle.rules.specs.Base.{if◌then◌else◌, none_above, times, insert_once, keep}
+use Rattle.rules.specs.Base.{none_above, times, insert_once, keep}
 use Rattle.rules.specs.Color.{RunnerConfig, discards}
 use Rattle.rules.specs.State.{State, Cluster, new_cluster, cluster, label, area, emptied, with_cluster, with_residue, merged_to, deeper, put_out, merge_cluster_into, deepen_cluster_into, plain, deepened}
 use Rattle.rules.specs.Stage2.{areas_of, neighbours, isolated, visit, pass, passes}

@@ -1,4 +1,5 @@
 -- What is read of a slot in buffers that a state lies in; painting from the buffers of a run answers 0 and gives its picture.
+use Rattle.std.specs.Prelude.{if◌then◌else◌}
 use mathlib.Core.Path.{◌≡◌, refl, sym, ap, ap₂, ◌∙◌, subst}
 use mathlib.Core.Logic.{◌≢◌, inl, inr}
 use mathlib.Core.Bool.{Bool, true, false}
@@ -9,7 +10,7 @@ use native.Mathlib.Omega.{arith}
 use borrow.Author.Tests.{eqb-true, lt-ltb, le-leb}
 use lib.Dec.{T, ltb, eqb, lt→ltb}
 use lib.ListN.{length, get_or, replicate}
-use Rattle.rules.specs.Base.{if◌then◌else◌, each, each_back, times_back}
+use Rattle.rules.specs.Base.{each, each_back, times_back}
 use Rattle.rules.specs.Color.{RunnerConfig, ColorSum, average, has_average}
 use Rattle.rules.specs.State.{State, cluster}
 use Rattle.rules.specs.Run.{run}

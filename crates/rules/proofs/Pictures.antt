@@ -1,4 +1,5 @@
 -- The picture clause of demand 3: keying off.
+use Rattle.std.specs.Prelude.{if◌then◌else◌}
 use mathlib.Core.Path.{◌≡◌, refl, sym, ap, ◌∙◌, subst}
 use mathlib.Core.Logic.{◌↔◌, ◌≢◌, inl, inr}
 use mathlib.Core.Bool.{Bool, true, false}
@@ -8,7 +9,7 @@ use native.Mathlib.Decide.{ℕ_discrete}
 use native.Mathlib.Omega.{arith}
 use lib.Dec.{T, eqb, ltb, lt→ltb, ltb→lt}
 use lib.ListN.{length, get_or}
-use Rattle.rules.specs.Base.{if◌then◌else◌, keep}
+use Rattle.rules.specs.Base.{keep}
 use Rattle.rules.specs.Color.{RunnerConfig, ColorSum, keying_on, pixel, average, sum_of_one, ◌⊕◌}
 use Rattle.rules.specs.State.{Cluster, State, cluster, label, with_residue}
 use Rattle.rules.specs.Stage2.{prepare_stage2}

@@ -1,4 +1,5 @@
 -- Every number of a run is in its range, at every moment, before every turn, and at the end.
+use Rattle.std.specs.Prelude.{if◌then◌else◌}
 use mathlib.Core.Path.{◌≡◌, refl, sym, ap, ◌∙◌, subst}
 use mathlib.Core.Logic.{◌≢◌}
 use mathlib.Core.Bool.{Bool, true, false, ◌||◌}
@@ -9,7 +10,7 @@ use native.Mathlib.Omega.{arith}
 use borrow.Author.Tests.{le-ltb}
 use lib.Dec.{T, eqb, ltb, eqb→eq}
 use lib.ListN.{length, get_or, length-append, length-map}
-use Rattle.rules.specs.Base.{if◌then◌else◌, keep}
+use Rattle.rules.specs.Base.{keep}
 use Rattle.rules.specs.Color.{RunnerConfig, ColorSum, sum_of_one, ◌⊕◌, pixel, keying_on}
 use Rattle.rules.specs.State.{State, Cluster, cluster, label, area, emptied, with_cluster, merged_to, deeper, with_residue, put_out, merge_cluster_into, deepen_cluster_into}
 use Rattle.rules.specs.Stage2.{visit, prepare_stage2}

@@ -1,4 +1,5 @@
 -- What stage 1 leaves in a slot: no holes, depth 0, nothing in the residue, a rectangle on the image.
+use Rattle.std.specs.Prelude.{if◌then◌else◌}
 use mathlib.Core.Path.{◌≡◌, refl, sym, ◌∙◌, subst}
 use mathlib.Core.Bool.{Bool, true, false, ◌&&◌}
 use mathlib.Core.List.{List, [], ◌∷◌, ◌++◌}
@@ -10,7 +11,7 @@ use native.Mathlib.Omega.{arith}
 use lib.Dec.{T, eqb, ltb, leb}
 use lib.ListN.{length, get_or, set, length-set, get_or-eq_default}
 use lib.Seq.{get_or-set_same, get_or-set_other}
-use Rattle.rules.specs.Base.{if◌then◌else◌, times}
+use Rattle.rules.specs.Base.{times}
 use Rattle.rules.specs.Color.{Color, RunnerConfig, zero_sum, pixel, is_discard}
 use Rattle.rules.specs.Grid.{up, left, up_left}
 use Rattle.rules.specs.State.{State, Cluster, BoundingRect, empty_rect, is_empty, merge_rect, new_cluster, cluster, area, pixel_rect, with_pixel, fresh, add_pixel, begin_cluster, combine_clusters, emptied, with_cluster}

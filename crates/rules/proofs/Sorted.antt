@@ -1,4 +1,5 @@
 -- With `hierarchical` 0 the passes put out all clusters with pixels by pixel count, then number: stage 2 has no case of its own for it.
+use Rattle.std.specs.Prelude.{if◌then◌else◌}
 use mathlib.Core.Path.{◌≡◌, refl, sym, ap, ◌∙◌, subst}
 use mathlib.Core.Bool.{Bool, true, false}
 use mathlib.Core.List.{List, [], ◌∷◌, ◌++◌, append_assoc, append-nil}
@@ -8,7 +9,7 @@ use native.Mathlib.Omega.{arith}
 use borrow.Author.Tests.{eqb-true, ltb-true}
 use lib.Dec.{T, eqb, ltb, leb, lt→ltb, le→leb, leb→le}
 use lib.ListN.{length}
-use Rattle.rules.specs.Base.{if◌then◌else◌, times, up_to, keep, insert_by, sort_by}
+use Rattle.rules.specs.Base.{times, up_to, keep, insert_by, sort_by}
 use Rattle.rules.specs.Color.{RunnerConfig}
 use Rattle.rules.specs.State.{State, cluster, area, put_out}
 use Rattle.rules.specs.Stage2.{output_all, neighbours, by_neighbours, visit, pass, passes}

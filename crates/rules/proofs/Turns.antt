@@ -1,4 +1,5 @@
 -- What code may use when it takes its turn: all of it before turn m of a run, where slot k is picked.
+use Rattle.std.specs.Prelude.{if◌then◌else◌}
 use mathlib.Core.Path.{◌≡◌, refl, ap, ◌∙◌, subst}
 use mathlib.Core.Logic.{by_cases}
 use mathlib.Core.Bool.{not, ◌&&◌, ◌||◌}
@@ -9,7 +10,7 @@ use native.Mathlib.Decide.{ℕ_discrete, dec_lt}
 use native.Mathlib.Omega.{arith}
 use lib.Dec.{eqb, ltb, leb}
 use lib.ListN.{length, get_or, length-append, length-map}
-use Rattle.rules.specs.Base.{if◌then◌else◌, none_above, member}
+use Rattle.rules.specs.Base.{none_above, member}
 use Rattle.rules.specs.Color.{RunnerConfig, hierarchical_max, is_discard, exceeds}
 use Rattle.rules.specs.Grid.{sides}
 use Rattle.rules.specs.State.{State, cluster, label, area, with_residue, put_out, merge_cluster_into, deepen_cluster_into}

@@ -1,4 +1,5 @@
 -- Stage 2 keeps what holds: each visit, each pass, all of them.
+use Rattle.std.specs.Prelude.{if◌then◌else◌}
 use mathlib.Core.Path.{◌≡◌, refl, sym, ap, ◌∙◌, subst}
 use mathlib.Core.Logic.{◌≢◌, ◌⊎◌, inl, inr, by_cases}
 use mathlib.Core.Bool.{Bool, true, false, ◌||◌}
@@ -10,7 +11,7 @@ use native.Mathlib.Omega.{arith}
 use borrow.Author.Tests.{eqb-false, eqb-true, ltb-false, ltb-true}
 use lib.Dec.{T, eqb, ltb, leb}
 use lib.ListN.{length, get_or}
-use Rattle.rules.specs.Base.{if◌then◌else◌, none_above, times, insert_once, least}
+use Rattle.rules.specs.Base.{none_above, times, insert_once, least}
 use Rattle.rules.specs.Color.{RunnerConfig, ◌⊕◌, discards}
 use Rattle.rules.specs.Grid.{sides}
 use Rattle.rules.specs.State.{State, cluster, label, area, emptied, with_cluster, with_residue, merged_to, deeper, put_out, merge_cluster_into, deepen_cluster_into}

@@ -1,4 +1,5 @@
 -- What a sound state has of demand 3; stage 1 and stage 2 of every run; merges change nothing in which pixels are held.
+use Rattle.std.specs.Prelude.{if◌then◌else◌}
 use mathlib.Core.Path.{◌≡◌, refl, sym, subst}
 use mathlib.Core.Logic.{◌↔◌, ◌≢◌, ◌⊎◌, inl, inr}
 use mathlib.Core.Bool.{Bool, true, false}
@@ -8,7 +9,6 @@ use native.Mathlib.Decide.{ℕ_discrete}
 use native.Mathlib.Omega.{arith}
 use borrow.Author.Tests.{eqb-true}
 use lib.Dec.{T, eqb}
-use Rattle.rules.specs.Base.{if◌then◌else◌}
 use Rattle.rules.specs.Color.{RunnerConfig, is_discard, keying_on, equal_color, pixel}
 use Rattle.rules.specs.State.{State, cluster, label, put_out, merge_cluster_into, deepen_cluster_into, plain}
 use Rattle.rules.specs.Stage1.{is_key, taken}

@@ -1,11 +1,6 @@
--- What the rules are written with: a choice, counted loops, tests on numbers and lists.
+-- What the rules are written with: counted loops, tests on numbers and lists.
 use Rattle.std.specs.Prelude.{Bool, true, false, ◌&&◌, ◌||◌, List, [], ◌∷◌, ◌++◌, ℕ, zero, suc, ◌+◌, ◌-◌, leb, ltb, eqb}
-
--- x where the condition holds, else y
-infix 5 if◌then◌else◌
-abbrev pub if◌then◌else◌ {ℓ} : {A : Type ℓ} → Bool → A → A → A
-if true then x else y = x
-if false then x else y = y
+pub use Rattle.std.specs.Prelude.{if◌then◌else◌}
 
 -- the steps f 0, f 1, .. f (n - 1), in that order, from s
 abbrev pub times {ℓ} : {S : Type ℓ} → ℕ → (ℕ → S → S) → S → S

@@ -1,6 +1,5 @@
 -- The words that demand 3 is said with: how often a list names a pixel, totals, counts, standing, holding (rule 12.3).
-use Rattle.std.specs.Prelude.{◌≢◌, Bool, true, false, List, [], ◌∷◌, ℕ, zero, suc, ◌+◌, ◌<◌, T, eqb}
-use Rattle.rules.specs.Base.{if◌then◌else◌}
+use Rattle.std.specs.Prelude.{◌≢◌, Bool, true, false, List, [], ◌∷◌, ℕ, zero, suc, ◌+◌, ◌<◌, T, eqb, if◌then◌else◌}
 use Rattle.rules.specs.Color.{ColorSum, zero_sum, sum_of_one, ◌⊕◌, pixel}
 use Rattle.rules.specs.Ledger.{Held}
 

@@ -1,8 +1,7 @@
 -- The neighbours of a pixel in an image of w columns and h rows: row y, column x is pixel w * y + x. A pixel off the
 -- image is none (rules 1.2, 1.3).
-use Rattle.std.specs.Prelude.{List, [], ◌∷◌, ℕ, ◌+◌, ◌-◌, ◌*◌, ◌%◌, leb, ltb}
+use Rattle.std.specs.Prelude.{List, [], ◌∷◌, ℕ, ◌+◌, ◌-◌, ◌*◌, ◌%◌, leb, ltb, if◌then◌else◌}
 use Rattle.std.proofs.Math.Option.{Option, none, some}
-use Rattle.rules.specs.Base.{if◌then◌else◌}
 
 -- the pixel above
 unfoldable pub up : ℕ → ℕ → Option ℕ

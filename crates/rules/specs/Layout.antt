@@ -1,8 +1,8 @@
 -- How a state lies in the buffers: links, and the numbers of a slot (rules 8.2, 8.3).
 -- First pixels and links hold a pixel number + 1, hole links a cluster number + 1; zero ends a chain.
 use mathlib.Core.List.{List, [], ◌∷◌, ◌++◌, map, flatten}
-use Rattle.std.specs.Prelude.{ℕ, zero, suc, ◌+◌, ◌*◌, ◌≤◌, eqb, length}
-use Rattle.rules.specs.Base.{if◌then◌else◌, up_to}
+use Rattle.std.specs.Prelude.{ℕ, zero, suc, ◌+◌, ◌*◌, ◌≤◌, eqb, length, if◌then◌else◌}
+use Rattle.rules.specs.Base.{up_to}
 use Rattle.rules.specs.Color.{ColorSum}
 use Rattle.rules.specs.State.{State, cluster, label}
 

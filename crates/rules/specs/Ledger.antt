@@ -1,6 +1,5 @@
 -- The ledger of demand 3 (rules 12.1, 12.2): for each cluster number the pixels held. It reads only what was decided.
-use Rattle.std.specs.Prelude.{Bool, false, ◌&&◌, ◌||◌, List, [], ◌∷◌, ℕ, eqb}
-use Rattle.rules.specs.Base.{if◌then◌else◌}
+use Rattle.std.specs.Prelude.{Bool, false, ◌&&◌, ◌||◌, List, [], ◌∷◌, ℕ, eqb, if◌then◌else◌}
 use Rattle.rules.specs.State.{Event, added, plain, deepened}
 
 -- `h k p`: cluster k holds pixel p

@@ -1,7 +1,7 @@
 -- The moments of a run at which demand 3 is claimed (rule 12.4): the end of stage 1, and the state after every later
 -- merge.
-use Rattle.std.specs.Prelude.{List, [], ◌∷◌, ◌++◌, ℕ, suc, ◌*◌, ltb, length}
-use Rattle.rules.specs.Base.{if◌then◌else◌, times}
+use Rattle.std.specs.Prelude.{List, [], ◌∷◌, ◌++◌, ℕ, suc, ◌*◌, ltb, length, if◌then◌else◌}
+use Rattle.rules.specs.Base.{times}
 use Rattle.rules.specs.Color.{RunnerConfig}
 use Rattle.rules.specs.State.{State, Event, added, plain, deepened}
 use Rattle.rules.specs.Stage2.{visit, prepare_stage2}

@@ -1,7 +1,7 @@
 -- Painting over any buffers, also such that no run made (rules 3.4, 9.2): checks 8, 9 and 10 for each entry from last
 -- to first, and the picture, painted only when all pass.
-use Rattle.std.specs.Prelude.{Bool, true, false, not, ◌&&◌, ◌||◌, List, ℕ, zero, suc, ◌+◌, ◌*◌, leb, ltb, eqb, get_or, replicate}
-use Rattle.rules.specs.Base.{if◌then◌else◌, each, times_back}
+use Rattle.std.specs.Prelude.{Bool, true, false, not, ◌&&◌, ◌||◌, List, ℕ, zero, suc, ◌+◌, ◌*◌, leb, ltb, eqb, get_or, replicate, if◌then◌else◌}
+use Rattle.rules.specs.Base.{each, times_back}
 use Rattle.rules.specs.Color.{ColorSum, average, has_average}
 use Rattle.rules.specs.Layout.{walk, slot_width, first_pixel_place, pixel_count_place, sum_place}
 use Rattle.rules.specs.Layout.{residue_place}

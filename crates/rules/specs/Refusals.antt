@@ -1,7 +1,6 @@
 -- The answer number of each public call (rules 3.1 to 3.4). 0 is acceptance. A call checks only what it takes, in the
 -- table's order, and answers the number of the first check that fails.
-use Rattle.std.specs.Prelude.{Bool, true, not, ◌||◌, List, [], ◌∷◌, ◌++◌, ℕ, ◌+◌, ◌*◌, leb, ltb, eqb, ℤ, pos, negsuc}
-use Rattle.rules.specs.Base.{if◌then◌else◌}
+use Rattle.std.specs.Prelude.{Bool, true, not, ◌||◌, List, [], ◌∷◌, ◌++◌, ℕ, ◌+◌, ◌*◌, leb, ltb, eqb, ℤ, pos, negsuc, if◌then◌else◌}
 use Rattle.rules.specs.Color.{ColorSum, ◌⊕◌, RunnerConfig}
 use Rattle.rules.specs.Layout.{slot_width}
 

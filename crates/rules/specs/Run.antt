@@ -1,6 +1,6 @@
 -- The whole run: stage 1, stage 2, and the outputs that are left (`Runner::run`; rules, sections 5 and 7).
-use Rattle.std.specs.Prelude.{List, ℕ, ◌*◌, ltb, eqb}
-use Rattle.rules.specs.Base.{if◌then◌else◌, keep}
+use Rattle.std.specs.Prelude.{List, ℕ, ◌*◌, ltb, eqb, if◌then◌else◌}
+use Rattle.rules.specs.Base.{keep}
 use Rattle.rules.specs.Color.{RunnerConfig}
 use Rattle.rules.specs.State.{State, cluster}
 use Rattle.rules.specs.Stage1.{taken}

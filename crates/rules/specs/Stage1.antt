@@ -1,9 +1,9 @@
 -- Stage 1, the label of each pixel (rules, section 5; `stage_1` of builder.rs).
-use Rattle.std.specs.Prelude.{Bool, ◌&&◌, List, ℕ, ◌+◌, ◌-◌, ◌/◌, ◌%◌, eqb, length}
+use Rattle.std.specs.Prelude.{Bool, ◌&&◌, List, ℕ, ◌+◌, ◌-◌, ◌/◌, ◌%◌, eqb, length, if◌then◌else◌}
 use Rattle.std.proofs.Math.Bool.{not}
 use Rattle.std.proofs.Math.Option.{Option, some, none as off}
 use Rattle.std.proofs.Math.Dec.{leb}
-use Rattle.rules.specs.Base.{if◌then◌else◌, times}
+use Rattle.rules.specs.Base.{times}
 use Rattle.rules.specs.Color.{Color, RunnerConfig, equal_color, keying_on, is_discard, is_same, pixel}
 use Rattle.rules.specs.Grid.{up, left, up_left}
 use Rattle.rules.specs.State.{State, fresh, cluster, label, area, pixel_rect, add_pixel, begin_cluster}

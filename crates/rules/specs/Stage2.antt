@@ -1,11 +1,11 @@
 -- Stage 2, merges and the output order (rules, section 7; `stage_2` of builder.rs, `patch_good` of runner.rs).
-use Rattle.std.specs.Prelude.{Bool, true, false, ◌&&◌, ◌||◌, ℕ, suc, ◌+◌, leb, get_or}
+use Rattle.std.specs.Prelude.{Bool, true, false, ◌&&◌, ◌||◌, ℕ, suc, ◌+◌, leb, get_or, if◌then◌else◌}
 use Rattle.std.proofs.Math.Bool.{not}
 use mathlib.Core.List.{List, [], ◌∷◌, ◌++◌, map}
 use Rattle.std.proofs.Math.Option.{Option, some, none as off}
 use Rattle.std.proofs.Math.Dec.{ltb, eqb}
 use Rattle.std.proofs.Math.ListN.{length}
-use Rattle.rules.specs.Base.{if◌then◌else◌, times, up_to, member, none_above, insert_once, keep, sort_by, least}
+use Rattle.rules.specs.Base.{times, up_to, member, none_above, insert_once, keep, sort_by, least}
 use Rattle.rules.specs.Color.{hierarchical_max, RunnerConfig, discards, color_diff, average, exceeds}
 use Rattle.rules.specs.Grid.{sides}
 use Rattle.rules.specs.State.{State, Cluster, cluster, label, area, with_residue, put_out, merge_cluster_into}

@@ -1,9 +1,9 @@
 -- Stage 2 told in other ways, shown equal to Stage2, for code to follow. The visiting order told by keys: a slot that
 -- is pending has its pixel count for a key, any other 0. The least key, and of several the first, is taken off and
 -- visited at that count; where it merged, its target is pending again. Stage 2 is this until no slot is pending.
-use Rattle.std.specs.Prelude.{Bool, false, not, ◌&&◌, ◌||◌, List, [], ◌∷◌, map, ℕ, ◌*◌, max, ltb, eqb, length, get_or, set}
+use Rattle.std.specs.Prelude.{Bool, false, not, ◌&&◌, ◌||◌, List, [], ◌∷◌, map, ℕ, ◌*◌, max, ltb, eqb, length, get_or, set, if◌then◌else◌}
 use Rattle.std.proofs.Math.Option.{Option, some, none as off}
-use Rattle.rules.specs.Base.{if◌then◌else◌, times, member}
+use Rattle.rules.specs.Base.{times, member}
 use Rattle.rules.specs.Color.{RunnerConfig}
 use Rattle.rules.specs.State.{State, Cluster, Event, added, plain, deepened, cluster, area}
 use Rattle.rules.specs.Grid.{sides}
