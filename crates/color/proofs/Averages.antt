@@ -1,11 +1,11 @@
 -- The answer of `average` for a sum that has an average.
+use Rattle.std.specs.Prelude.{if◌then◌else◌}
 use mathlib.Core.Path.{◌≡◌, refl, ap}
 use mathlib.Core.Bool.{true, false}
 use mathlib.Core.Option.{some, none}
 use Prim.Native.Nat.{ℕ}
 use native.Mathlib.Omega.{arith}
 use lib.Dec.{T}
-use Rattle.rules.specs.Base.{if◌then◌else◌}
 use Rattle.rules.specs.Color.{ColorSum, has_average, average, average_or_none}
 use Rattle.color.specs.declared.Color.{Color}
 use Rattle.color.specs.declared.ColorOrNone.{ColorOrNone}

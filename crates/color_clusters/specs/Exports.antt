@@ -1,6 +1,5 @@
 -- The settings as the exported calls take them, one by one.
-use Rattle.std.specs.Prelude.{ℕ, eqb, ℤ}
-use Rattle.rules.specs.Base.{if◌then◌else◌}
+use Rattle.std.specs.Prelude.{ℕ, eqb, ℤ, if◌then◌else◌}
 use Rattle.rules.specs.Color.{RunnerConfig, KeyingAction, Keep, Discard, rgba}
 
 -- 0 keeps, any other number discards

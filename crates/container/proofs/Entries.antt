@@ -1,4 +1,5 @@
 -- The entries that painting goes through from last to first, and what an entry that passes has shown.
+use Rattle.std.specs.Prelude.{if◌then◌else◌}
 use mathlib.Core.Path.{◌≡◌, refl, sym, ◌∙◌, subst}
 use mathlib.Core.Bool.{Bool, true, false, not}
 use mathlib.Core.List.{List}
@@ -10,7 +11,7 @@ use native.Mathlib.Omega.{arith}
 use borrow.Author.Tests.{eqb-true, eqb-false}
 use lib.Dec.{T, eqb, ltb, leb, ltb→lt}
 use lib.ListN.{get_or}
-use Rattle.rules.specs.Base.{if◌then◌else◌, times_back}
+use Rattle.rules.specs.Base.{times_back}
 use Rattle.rules.specs.Color.{has_average}
 use Rattle.rules.specs.Paint.{reads, slot_number, slot_residue, entry_answer, entries_answer}
 use Rattle.rules.proofs.Accepted.{passed, neither}

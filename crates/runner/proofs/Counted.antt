@@ -1,4 +1,5 @@
 -- One more entry of the outputs.
+use Rattle.std.specs.Prelude.{if◌then◌else◌}
 use mathlib.Core.Path.{◌≡◌, refl, sym, ap, ◌∙◌, subst}
 use mathlib.Core.Bool.{Bool, true, false}
 use mathlib.Core.List.{List, [], ◌∷◌, ◌++◌, append_assoc, append-nil}
@@ -8,7 +9,7 @@ use native.Mathlib.Omega.{arith}
 use lib.Dec.{ltb}
 use lib.ListN.{length, get_or, set, take, drop, length-append}
 use lib.Seq.{take-suc, drop-cons, set-append_seam, length-take-le}
-use Rattle.rules.specs.Base.{if◌then◌else◌, keep}
+use Rattle.rules.specs.Base.{keep}
 use Rattle.rules.specs.Calls.{over}
 use Rattle.rules.proofs.Calls.{over-length}
 use Rattle.rules.proofs.Sorted.{keep_append}

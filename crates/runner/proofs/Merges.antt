@@ -1,4 +1,5 @@
 -- The merges of stage 2 in the buffers: what they ask is there, and what they leave holds the state of the rules.
+use Rattle.std.specs.Prelude.{if◌then◌else◌}
 use mathlib.Core.Path.{◌≡◌, refl, sym, ap, ap₂, ◌∙◌, subst}
 use mathlib.Core.Bool.{true, false}
 use mathlib.Core.List.{List}
@@ -6,7 +7,6 @@ use Prim.Native.Nat.{ℕ, ◌+◌, ◌*◌, ◌≤◌, ◌<◌}
 use native.Mathlib.Omega.{arith}
 use lib.Dec.{T, eqb}
 use lib.ListN.{length, get_or, set}
-use Rattle.rules.specs.Base.{if◌then◌else◌}
 use Rattle.rules.specs.Color.{RunnerConfig, ColorSum, ◌⊕◌}
 use Rattle.rules.specs.State.{State, cluster, label, area, relabel, with_cluster, merge_cluster_into, deepen_cluster_into}
 use Rattle.rules.specs.Layout.{first_of, walk, slot_width, merged_into_place, depth_place, num_holes_place}

@@ -1,4 +1,5 @@
 -- A scan with marks finds the neighbours of the rules: each label once, their number, and the least by difference and number. Assumes nothing.
+use Rattle.std.specs.Prelude.{if◌then◌else◌}
 use mathlib.Core.Path.{◌≡◌, refl, sym, ap, ap₂, ◌∙◌, subst}
 use mathlib.Core.Logic.{◌≢◌, ◌⊎◌, inl, inr}
 use mathlib.Core.Bool.{Bool, true, false, ◌&&◌, ◌||◌, or-true}
@@ -12,7 +13,7 @@ use lib.Dec.{T, eqb, leb, ltb, eqb_refl}
 use lib.ListN.{length, get_or, set, length-set}
 use lib.Seq.{get_or-set_same, get_or-set_other}
 use borrow.Author.Tests.{ltb-true, ltb-false, eqb-true, eqb-false, ne_eqb}
-use Rattle.rules.specs.Base.{if◌then◌else◌, each, member, insert_once, least}
+use Rattle.rules.specs.Base.{each, member, insert_once, least}
 use Rattle.rules.specs.Color.{color_diff, average}
 use Rattle.rules.specs.Grid.{up, down, left, right, sides}
 use Rattle.rules.specs.State.{State, cluster, label}

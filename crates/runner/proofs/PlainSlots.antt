@@ -1,4 +1,5 @@
 -- The table of clusters without hole children, as in stage 1: a slot is a function of its cluster alone.
+use Rattle.std.specs.Prelude.{if◌then◌else◌}
 use mathlib.Core.Path.{◌≡◌, refl, sym, ap, ◌∙◌, subst}
 use mathlib.Core.Logic.{◌≢◌, inl, inr, by_cases}
 use mathlib.Core.Bool.{Bool, true, false, not}
@@ -9,7 +10,6 @@ use native.Mathlib.Omega.{arith}
 use lib.Dec.{T, ltb, ltb→lt, nltb→le}
 use lib.ListN.{length, get_or, set, replicate, length-set, length-append, get_or-append, get_or-eq_default}
 use lib.Seq.{get_or-set_same, get_or-set_other, get_or-append_seam, get_or-append-add, set-set, set-append_seam}
-use Rattle.rules.specs.Base.{if◌then◌else◌}
 use Rattle.rules.specs.State.{State, Cluster, new_cluster, cluster}
 use Rattle.rules.specs.Layout.{after, first_of, sum_numbers, slot, slot_width}
 use Rattle.runner.specs.Code.Slots.{head_numbers, head_of, saved_head, cleared_slot}

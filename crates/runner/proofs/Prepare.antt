@@ -1,4 +1,5 @@
 -- The loop that prepares the slots for stage 2.
+use Rattle.std.specs.Prelude.{if◌then◌else◌}
 use mathlib.Core.Path.{◌≡◌, refl, sym, ap, ◌∙◌, subst}
 use mathlib.Core.List.{List}
 use Prim.Native.Nat.{ℕ, ◌+◌, ◌*◌, ◌≤◌, ◌<◌, max}
@@ -9,7 +10,6 @@ use borrow.Author.Tests.{le-ltb}
 use lib.Dec.{lit<}
 use lib.ListN.{length, get_or, drop, length-set, drop_of_length-le}
 use lib.Seq.{drop-cons, get_or-set_same, get_or-set_other}
-use Rattle.rules.specs.Base.{if◌then◌else◌}
 use Rattle.rules.specs.State.{State, Cluster, new_cluster, cluster, area}
 use Rattle.rules.specs.Layout.{sum_numbers, slot, slot_width}
 use Rattle.rules.specs.Stage2.{prepare_stage2}

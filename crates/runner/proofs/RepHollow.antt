@@ -1,4 +1,5 @@
 -- The buffers keep holding the state of the rules when a cluster that deepened becomes a hole child.
+use Rattle.std.specs.Prelude.{if◌then◌else◌}
 use mathlib.Core.Path.{◌≡◌, refl, sym, ap, ap₂, ◌∙◌, subst}
 use mathlib.Core.Logic.{◌≢◌, by_cases}
 use mathlib.Core.Bool.{true, false}
@@ -9,7 +10,6 @@ use native.Mathlib.Omega.{arith}
 use lib.Dec.{eqb, lit≤, lit<}
 use lib.ListN.{length, get_or, set, length-set, length-append}
 use lib.Seq.{get_or-set_same, get_or-set_other}
-use Rattle.rules.specs.Base.{if◌then◌else◌}
 use Rattle.rules.specs.State.{State, Cluster, cluster, label, area, with_cluster, deeper, deepen_cluster_into}
 use Rattle.rules.specs.Layout.{after, first_of, slot, slot_width, num_holes_place, first_hole_place, next_hole_place}
 use Rattle.rules.specs.Claim.{bit, occurs}

@@ -1,4 +1,5 @@
 -- The buffers hold the rules' state through the operations of stage 1.
+use Rattle.std.specs.Prelude.{if◌then◌else◌}
 use mathlib.Core.Path.{◌≡◌, refl, sym, ap, ◌∙◌, subst}
 use mathlib.Core.Logic.{◌≢◌}
 use mathlib.Core.Bool.{Bool, true, false}
@@ -9,7 +10,6 @@ use native.Mathlib.Omega.{arith}
 use lib.Dec.{T, eqb, eqb-suc-zero, ltb}
 use lib.ListN.{length, get_or, set, replicate, length-set, length-replicate, get_or-replicate}
 use lib.Seq.{get_or-set_same, get_or-set_other, ext_get_or}
-use Rattle.rules.specs.Base.{if◌then◌else◌}
 use Rattle.rules.specs.Color.{Color}
 use Rattle.rules.specs.State.{State, BoundingRect, new_cluster, cluster, label, area, relabel, with_pixel, with_cluster, emptied, fresh, add_pixel, begin_cluster, combine_clusters}
 use Rattle.rules.specs.Stage1.{lower_next}

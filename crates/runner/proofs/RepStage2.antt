@@ -1,4 +1,5 @@
 -- The buffers keep holding the state of the rules through the operations of stage 2.
+use Rattle.std.specs.Prelude.{if◌then◌else◌}
 use mathlib.Core.Path.{◌≡◌, refl, sym, ap, ap₂, ◌∙◌, subst, fun_ext}
 use mathlib.Core.Logic.{◌≢◌, inl, by_cases}
 use mathlib.Core.Bool.{false}
@@ -10,7 +11,7 @@ use borrow.Author.Tests.{lt-ltb, le-ltb}
 use lib.Dec.{ltb, lit≤, lit<}
 use lib.ListN.{length, get_or, set, length-set, length-map}
 use lib.Seq.{get_or-set_other}
-use Rattle.rules.specs.Base.{if◌then◌else◌, up_to}
+use Rattle.rules.specs.Base.{up_to}
 use Rattle.rules.specs.Color.{◌⊕◌}
 use Rattle.rules.specs.State.{State, Cluster, new_cluster, cluster, label, area, relabel, with_cluster, emptied, with_residue, merged_to, deeper, put_out, merge_cluster_into, deepen_cluster_into}
 use Rattle.rules.specs.Layout.{after, first_of, link, links, sum_numbers, slot, slot_width, merged_into_place, depth_place}

@@ -1,4 +1,5 @@
 -- The laws of a visit of stage 2, with room for w × h + 1, as code has it.
+use Rattle.std.specs.Prelude.{if◌then◌else◌}
 use mathlib.Core.Path.{◌≡◌}
 use mathlib.Core.Bool.{Bool, true, false}
 use mathlib.Core.List.{List}
@@ -6,7 +7,6 @@ use Prim.Native.Nat.{ℕ, ◌+◌, ◌*◌, ◌≤◌, ◌<◌}
 use native.Mathlib.Omega.{arith}
 use lib.Dec.{leb}
 use lib.ListN.{length, get_or}
-use Rattle.rules.specs.Base.{if◌then◌else◌}
 use Rattle.rules.specs.Color.{RunnerConfig}
 use Rattle.rules.specs.State.{put_out}
 use Rattle.rules.specs.Stage2.{deepens}

@@ -1,4 +1,5 @@
 -- The pixel at column x, row y, and the pixels beside it.
+use Rattle.std.specs.Prelude.{if◌then◌else◌}
 use mathlib.Core.Path.{◌≡◌, refl, sym, ap, ◌∙◌}
 use mathlib.Core.Logic.{by_cases}
 use mathlib.Core.Bool.{Bool, true, false}
@@ -11,7 +12,6 @@ use native.Mathlib.Omega.{arith}
 use borrow.Author.Tests.{lt-ltb, le-ltb, le-leb, lt-leb}
 use lib.Dec.{ltb}
 use lib.ListN.{length}
-use Rattle.rules.specs.Base.{if◌then◌else◌}
 use Rattle.rules.specs.Color.{Color, RunnerConfig, pixel, pixel_at}
 use Rattle.rules.specs.Grid.{up, left, up_left}
 use Rattle.rules.specs.Stage1.{color_at}

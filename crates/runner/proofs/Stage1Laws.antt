@@ -1,4 +1,5 @@
 -- What the operations of stage 1 ask holds of the buffers of a state, and what they leave holds the rules' next state.
+use Rattle.std.specs.Prelude.{if◌then◌else◌}
 use mathlib.Core.Path.{◌≡◌, sym, ap, ap₂, ◌∙◌, subst}
 use mathlib.Core.Logic.{◌≢◌}
 use mathlib.Core.List.{List}
@@ -6,7 +7,6 @@ use Prim.Native.Nat.{ℕ, ◌+◌, ◌-◌, ◌*◌, ◌/◌, ◌%◌, ◌≤◌
 use native.Mathlib.Omega.{arith}
 use lib.Dec.{T, eqb, lit<}
 use lib.ListN.{length, get_or, set, replicate, get_or-replicate}
-use Rattle.rules.specs.Base.{if◌then◌else◌}
 use Rattle.rules.specs.Color.{Color, RunnerConfig, ColorSum, sum_of_one, pixel}
 use Rattle.rules.specs.State.{State, new_cluster, cluster, area, pixel_rect, relabel, with_pixel, add_pixel, begin_cluster, combine_clusters}
 use Rattle.rules.specs.Layout.{first_of, walk, slot_width, pixel_count_place}

@@ -1,4 +1,5 @@
 -- The steps of stage 1 on the buffers: a pixel is placed, two clusters meet, a pixel is taken.
+use Rattle.std.specs.Prelude.{if◌then◌else◌}
 use mathlib.Core.Path.{◌≡◌, refl, sym, ap, ap₂, ◌∙◌, subst}
 use mathlib.Core.Logic.{◌≢◌}
 use mathlib.Core.Bool.{Bool, true, false, not, ◌&&◌, true≢false, and-false}
@@ -9,7 +10,6 @@ use native.Mathlib.Omega.{arith}
 use borrow.Author.Tests.{le-leb, lt-leb}
 use lib.Dec.{T, eqb, ltb, nltb→le}
 use lib.ListN.{length, get_or, set, replicate, length-set, length-append}
-use Rattle.rules.specs.Base.{if◌then◌else◌}
 use Rattle.rules.specs.Color.{Color, RunnerConfig, pixel, is_discard, keying_on}
 use Rattle.rules.specs.Grid.{up, left, up_left}
 use Rattle.rules.specs.State.{State, Cluster, new_cluster, cluster, area, pixel_rect, with_pixel, fresh, add_pixel, begin_cluster, combine_clusters}

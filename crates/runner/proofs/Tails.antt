@@ -1,4 +1,5 @@
 -- What the links become when the list of a cluster gets a tail: by a pixel that is added to it, or by a merge.
+use Rattle.std.specs.Prelude.{if◌then◌else◌}
 use mathlib.Core.Path.{◌≡◌, refl, sym, ap, ◌∙◌, subst}
 use mathlib.Core.Logic.{◌≢◌, by_cases}
 use mathlib.Core.Bool.{true, false}
@@ -10,7 +11,6 @@ use borrow.Author.Tests.{ne_eqb}
 use lib.Dec.{eqb}
 use lib.ListN.{length, get_or, set, length-set}
 use lib.Seq.{get_or-set_same, get_or-set_other, ext_get_or}
-use Rattle.rules.specs.Base.{if◌then◌else◌}
 use Rattle.rules.specs.State.{State, cluster, label, area}
 use Rattle.rules.specs.Layout.{after, first_of, link, links}
 use Rattle.rules.specs.Claim.{occurs}

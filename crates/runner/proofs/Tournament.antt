@@ -1,4 +1,5 @@
 -- Laws of the tournament tree. Assumes nothing.
+use Rattle.std.specs.Prelude.{if◌then◌else◌}
 use mathlib.Core.Path.{◌≡◌, refl, sym, ap, ap₂, ◌∙◌, subst}
 use mathlib.Core.Logic.{◌⊎◌, inl, inr, by_cases}
 use mathlib.Core.Bool.{Bool, true, false, ◌&&◌}
@@ -10,7 +11,6 @@ use lib.Dec.{ltb, eqb}
 use lib.ListN.{length, get_or, set, length-set}
 use lib.Seq.{get_or-set_same, get_or-set_other, set-get_or}
 use borrow.Author.Tests.{ltb-true, ltb-false, lt-ltb, le-ltb, eqb-true, eqb-false, le-leb, lt-leb}
-use Rattle.rules.specs.Base.{if◌then◌else◌}
 use Rattle.rules.proofs.Facts.{both_true}
 use Rattle.runner.specs.declared.queue.Entry.{Entry}
 use Rattle.runner.specs.declared.queue.Taken.{Taken}

@@ -1,4 +1,5 @@
 -- One visit of stage 2 in the buffers: what each step asks, and what it leaves.
+use Rattle.std.specs.Prelude.{if◌then◌else◌}
 use mathlib.Core.Path.{◌≡◌, refl, sym, ap, ap₂, ◌∙◌, subst}
 use mathlib.Core.Bool.{Bool, true, false, ◌||◌}
 use mathlib.Core.List.{List, [], ◌∷◌}
@@ -7,7 +8,6 @@ use native.Mathlib.Omega.{arith}
 use lib.Dec.{T, leb}
 use lib.ListN.{length, get_or, set, length-append}
 use borrow.Author.Tests.{lt-ltb, le-ltb}
-use Rattle.rules.specs.Base.{if◌then◌else◌}
 use Rattle.rules.specs.Color.{RunnerConfig, discards}
 use Rattle.rules.specs.State.{State, plain, deepened, cluster, label, area, put_out, merge_cluster_into, deepen_cluster_into}
 use Rattle.rules.specs.Layout.{link, links, slot, slot_width, first_pixel_place, pixel_count_place}

@@ -2,8 +2,7 @@
 //
 // `ends` holds for each slot the last pixel of its list, then for each slot the last of its hole children, each plus
 // one.
-ghost use Rattle.std.specs.Prelude.{◌≡◌, ◌+◌, ◌-◌, ◌*◌, ◌≤◌, ◌<◌, eqb, length, get_or, set};
-ghost use Rattle.rules.specs.Base.{if◌then◌else◌};
+ghost use Rattle.std.specs.Prelude.{◌≡◌, ◌+◌, ◌-◌, ◌*◌, ◌≤◌, ◌<◌, eqb, length, get_or, set, if◌then◌else◌};
 ghost use Rattle.rules.specs.Layout.{InTable};
 ghost use Rattle.rules.specs.Code.Bounds.{count_bound};
 ghost use Rattle.color.specs.Colors.{color_of};

@@ -1,7 +1,6 @@
 // Stage 1, the label of each pixel, after `stage_1` of builder.rs.
-ghost use Rattle.std.specs.Prelude.{◌≡◌, ◌&&◌, List, ℕ, suc, ◌+◌, ◌-◌, ◌*◌, ◌/◌, ◌%◌, ◌≤◌, ◌<◌, eqb, ltb, pos, length};
+ghost use Rattle.std.specs.Prelude.{◌≡◌, ◌&&◌, List, ℕ, suc, ◌+◌, ◌-◌, ◌*◌, ◌/◌, ◌%◌, ◌≤◌, ◌<◌, eqb, ltb, pos, length, if◌then◌else◌};
 ghost use Rattle.std.proofs.Math.Option.{Option};
-ghost use Rattle.rules.specs.Base.{if◌then◌else◌};
 ghost use Rattle.rules.specs.Grid as grid;
 ghost use Rattle.rules.specs.Color.{RunnerConfig as Config, pixel};
 ghost use Rattle.rules.specs.State.{State};

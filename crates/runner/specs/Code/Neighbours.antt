@@ -1,7 +1,7 @@
 -- The neighbours of a cluster as a scan with marks finds them: how many, the nearest, and its difference.
-use Rattle.std.specs.Prelude.{◌≡◌, ◌≢◌, Bool, ◌&&◌, ◌||◌, List, [], ◌∷◌, ℕ, ◌+◌, ◌*◌, ◌≤◌, ◌<◌, T, eqb, ltb, length, get_or, set}
+use Rattle.std.specs.Prelude.{◌≡◌, ◌≢◌, Bool, ◌&&◌, ◌||◌, List, [], ◌∷◌, ℕ, ◌+◌, ◌*◌, ◌≤◌, ◌<◌, T, eqb, ltb, length, get_or, set, if◌then◌else◌}
 use Rattle.std.proofs.Math.Option.{Option, none, some}
-use Rattle.rules.specs.Base.{if◌then◌else◌, each, least}
+use Rattle.rules.specs.Base.{each, least}
 use Rattle.rules.specs.Color.{Color, color_diff, average, has_average}
 use Rattle.rules.specs.Layout.{walk, slot_width, first_pixel_place, pixel_count_place}
 use Rattle.rules.specs.Paint.{reads}

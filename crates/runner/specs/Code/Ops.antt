@@ -1,7 +1,6 @@
 -- What adding a pixel and merging do to the buffers: L labels, K links, B table, E ends, and the same with '
 -- afterwards.
-use Rattle.std.specs.Prelude.{◌≡◌, List, ℕ, ◌+◌, ◌-◌, ◌*◌, ◌≤◌, ◌<◌, eqb, length, get_or, set}
-use Rattle.rules.specs.Base.{if◌then◌else◌}
+use Rattle.std.specs.Prelude.{◌≡◌, List, ℕ, ◌+◌, ◌-◌, ◌*◌, ◌≤◌, ◌<◌, eqb, length, get_or, set, if◌then◌else◌}
 use Rattle.rules.specs.Color.{Color, sum_of_one, ◌⊕◌}
 use Rattle.rules.specs.State.{Cluster, new_cluster, with_pixel, with_cluster, pixel_rect, relabel}
 use Rattle.rules.specs.Layout.{walk, slot_width, merged_into_place, depth_place, num_holes_place, first_hole_place}

@@ -1,6 +1,6 @@
 -- The outputs that are left at the end of a run.
-use Rattle.std.specs.Prelude.{◌≡◌, List, ℕ, ◌+◌, ◌*◌, ltb, get_or, set}
-use Rattle.rules.specs.Base.{if◌then◌else◌, keep}
+use Rattle.std.specs.Prelude.{◌≡◌, List, ℕ, ◌+◌, ◌*◌, ltb, get_or, set, if◌then◌else◌}
+use Rattle.rules.specs.Base.{keep}
 use Rattle.rules.specs.Layout.{slot_width, sum_count_place}
 
 -- the entries whose sum counts something

@@ -1,3 +1,4 @@
+use Rattle.std.specs.Prelude.{if◌then◌else◌}
 use mathlib.Core.Path.{◌≡◌, ap, ◌∙◌}
 use mathlib.Core.List.{List}
 use Prim.Native.Nat.{ℕ, ◌+◌, ◌*◌, ◌≤◌, ◌<◌}
@@ -5,7 +6,6 @@ use native.Mathlib.Omega.{arith}
 use borrow.Author.Rules.{rules}
 use lib.Dec.{eqb}
 use lib.ListN.{length, get_or, set}
-use Rattle.rules.specs.Base.{if◌then◌else◌}
 use Rattle.rules.specs.State.{Cluster, with_cluster}
 use Rattle.rules.specs.State as rules
 use Rattle.rules.specs.Layout.{walk, slot_width, first_pixel_place, pixel_count_place}
