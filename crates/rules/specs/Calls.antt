@@ -1,6 +1,6 @@
 -- What each public call answers and leaves in the buffers that it is lent, for every input: a refused call changes
 -- nothing (rules 3.1 and 3.5, and sections 8 to 11).
-use Rattle.std.specs.Prelude.{List, ◌++◌, ℕ, ◌+◌, ◌*◌, length, take, drop, replicate, if◌then◌else◌}
+use Rattle.std.specs.Prelude.{List, ◌++◌, ℕ, ◌*◌, length, take, drop, replicate, if◌then◌else◌}
 use Rattle.std.proofs.Math.Dec.{eqb}
 use Rattle.rules.specs.Color.{ColorSum, ◌⊕◌, RunnerConfig}
 use Rattle.rules.specs.State.{State}

@@ -1,5 +1,5 @@
 -- Stage 2, merges and the output order (rules, section 7; `stage_2` of builder.rs, `patch_good` of runner.rs).
-use Rattle.std.specs.Prelude.{Bool, true, false, ◌&&◌, ◌||◌, ℕ, suc, ◌+◌, leb, get_or, if◌then◌else◌}
+use Rattle.std.specs.Prelude.{Bool, true, false, ◌&&◌, ◌||◌, ℕ, suc, leb, get_or, if◌then◌else◌}
 use Rattle.std.proofs.Math.Bool.{not}
 use mathlib.Core.List.{List, [], ◌∷◌, ◌++◌, map}
 use Rattle.std.proofs.Math.Option.{Option, some, none as off}

@@ -1,5 +1,5 @@
 -- The stored sheet: two-byte numbers, low byte first (rule 11.1).
-use Rattle.std.specs.Prelude.{Bool, not, ℕ, ◌+◌, ◌*◌, ◌/◌, ◌%◌, get_or, take}
+use Rattle.std.specs.Prelude.{Bool, not, ℕ, ◌*◌, ◌/◌, ◌%◌, get_or, take}
 use mathlib.Core.List.{List, [], ◌∷◌, ◌++◌, map, flatten}
 use Rattle.rules.specs.Base.{up_to, none_above}
 use Rattle.rules.specs.Layout.{first_pixel_place, pixel_count_place}

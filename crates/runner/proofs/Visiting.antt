@@ -13,7 +13,7 @@ use Rattle.rules.specs.State.{State, plain, deepened, cluster, label, area, put_
 use Rattle.rules.specs.Layout.{link, links, slot, slot_width, first_pixel_place, pixel_count_place}
 use Rattle.rules.specs.Paint.{reads}
 use Rattle.rules.specs.Stage2.{labels_around, neighbours, cluster_diff, rank, deepens, isolated, merge_into_nearest, by_neighbours}
-use Rattle.rules.specs.Code.Order.{Queue, target, rekey, largest}
+use Rattle.rules.specs.Code.Order.{Queue, rekey, largest}
 use Rattle.rules.proofs.Basic.{Moved, merge-moved, deepen-moved}
 use Rattle.rules.proofs.Visits.{All, Near, least-all, neighbours-near}
 use Rattle.rules.proofs.Visits as visits

@@ -1,5 +1,4 @@
 use mathlib.Core.Path.{◌∙◌}
-use Prim.Native.Nat.{◌-◌}
 use native.Mathlib.Omega.{arith}
 use Rattle.container.proofs.Covered.{begins-more, begins-all}
 use Rattle.container.proofs.fill.fill.Goals as goal

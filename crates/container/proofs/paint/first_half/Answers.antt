@@ -1,5 +1,4 @@
 use mathlib.Core.Path.{refl}
-use Prim.Native.Nat.{◌-◌}
 use Rattle.rules.specs.Paint.{slot_number}
 use Rattle.container.proofs.paint.first_half.Goals as goal
 

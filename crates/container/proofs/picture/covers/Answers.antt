@@ -1,4 +1,3 @@
-use Prim.Native.Nat.{◌-◌}
 use native.Mathlib.Omega.{arith}
 use Rattle.rules.specs.Paint.{slot_number}
 use Rattle.container.proofs.picture.covers.Goals as goal

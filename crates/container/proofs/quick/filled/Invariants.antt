@@ -1,4 +1,4 @@
-use Prim.Native.Nat.{◌-◌, ◌≤◌}
+use Prim.Native.Nat.{◌≤◌}
 use Rattle.container.specs.Code.Quick.{LanePasses}
 use Rattle.container.proofs.quick.filled.Given as goal
 

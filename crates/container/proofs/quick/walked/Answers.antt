@@ -1,4 +1,4 @@
-use Prim.Native.Nat.{◌-◌, ◌<◌}
+use Prim.Native.Nat.{◌<◌}
 use native.Mathlib.Omega.{arith}
 use Rattle.container.proofs.Passes.{On, on-sheet, one_more}
 use Rattle.container.proofs.quick.walked.Goals as goal

@@ -1,5 +1,5 @@
 use mathlib.Core.Path.{sym, ◌∙◌}
-use Prim.Native.Nat.{◌*◌, ◌-◌}
+use Prim.Native.Nat.{◌*◌}
 use Rattle.runner.specs.Code.Interior.{some_inside}
 use Rattle.rules.proofs.Walks.{Step, step, walk_none}
 use Rattle.runner.proofs.geometry.has_interior.Goals as goal

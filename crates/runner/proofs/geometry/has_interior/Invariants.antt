@@ -1,5 +1,5 @@
 use mathlib.Core.Path.{◌≡◌}
-use Prim.Native.Nat.{◌*◌, ◌-◌}
+use Prim.Native.Nat.{◌*◌}
 use lib.Dec.{T}
 use lib.ListN.{get_or}
 use Rattle.rules.specs.Layout.{walk}

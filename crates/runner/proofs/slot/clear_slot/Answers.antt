@@ -6,7 +6,6 @@ use native.Mathlib.Omega.{arith}
 use lib.ListN.{set, replicate, length-set}
 use Rattle.rules.specs.Layout.{slot_width}
 use Rattle.runner.specs.Code.Slots.{set_numbers, cleared_slot}
-use Rattle.runner.proofs.slot.clear_slot.Invariants.{Going}
 use Rattle.runner.proofs.slot.clear_slot.Goals as goal
 
 turn : (t : List ℕ) (b j : ℕ) → j < slot_width → set_numbers (set t (b + j) 0) b (j + 1) (replicate (slot_width - (j + 1)) 0) ≡ set_numbers t b j (replicate (slot_width - j) 0)

@@ -1,6 +1,5 @@
 use mathlib.Core.Path.{ap}
 use native.Mathlib.Omega.{arith}
-use borrow.Author.Rules.{rules}
 use Rattle.rules.specs.Color as rules
 use Rattle.rules.specs.Layout.{residue_place}
 use Rattle.rules.specs.Paint.{slot_number, five_from}

@@ -3,7 +3,6 @@ use mathlib.Core.List.{List}
 use Prim.Native.Nat.{ℕ, zero, suc, ◌+◌, ◌-◌, ◌≤◌, ◌<◌}
 use native.Mathlib.Omega.{arith}
 use lib.ListN.{length, get_or, set}
-use Rattle.rules.specs.Color.{ColorSum}
 use Rattle.rules.specs.State.{Cluster, with_cluster}
 use Rattle.rules.specs.Code.Spans.{set_from, sum_from, span_rect, span_of}
 use Rattle.rules.proofs.Spans.{first-up_from, length-up_from}

@@ -1,4 +1,3 @@
-use Prim.Native.Nat.{◌-◌}
 use native.Mathlib.Omega.{arith}
 use Rattle.rules.specs.Code.Spans.{Extends}
 use Rattle.runner.proofs.SpanLaws.{then-more}

@@ -1,10 +1,9 @@
 use mathlib.Core.Path.{◌≡◌, refl, ◌∙◌}
 use mathlib.Core.List.{List}
-use Prim.Native.Nat.{ℕ, ◌+◌, ◌-◌, ◌*◌, ◌≤◌, ◌<◌}
+use Prim.Native.Nat.{ℕ, ◌+◌, ◌*◌, ◌≤◌, ◌<◌}
 use native.Mathlib.Omega.{arith}
 use lib.ListN.{length}
 use Rattle.rules.specs.Color.{RunnerConfig}
-use Rattle.rules.specs.Stage1.{taken}
 use Rattle.rules.specs.Layout.{slot_width}
 use Rattle.runner.specs.Code.Slots.{cleared_slot}
 use Rattle.runner.specs.Code.Stage1.{Given, Taking}

@@ -1,4 +1,3 @@
-use Prim.Native.Nat.{◌-◌}
 use Rattle.runner.proofs.Prepare.{prepare-next, prepare-done}
 use Rattle.runner.proofs.stage2.prepare_stage_2.Goals as goal
 

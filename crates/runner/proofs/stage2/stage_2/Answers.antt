@@ -3,7 +3,6 @@ use Prim.Native.Nat.{ℕ, ◌+◌, ◌-◌, ◌<◌}
 use native.Mathlib.Omega.{arith}
 use Rattle.runner.proofs.Starting.{preparing-fits, building, started}
 use Rattle.runner.proofs.Turning.{picking, chooses, ends, turns-left}
-use Rattle.runner.proofs.stage2.stage_2.Invariants.{Running}
 use Rattle.runner.proofs.stage2.stage_2.Goals as goal
 
 -- one turn fewer is left

@@ -1,5 +1,5 @@
 use mathlib.Core.Path.{refl}
-use Prim.Native.Nat.{◌-◌, ◌≤◌}
+use Prim.Native.Nat.{◌≤◌}
 use native.Mathlib.Omega.{arith}
 use Rattle.rules.specs.Paint.{slot_number}
 use Rattle.rules.specs.Stored.{stored_bytes, slot_numbers}
