@@ -213,13 +213,21 @@ impl Reader<'_> {
 mod tests {
     use super::*;
 
-    const COMMITTED: &[u8] = include_bytes!("../../../crates/replay/stdin");
+    const COMMITTED: &[u8] = include_bytes!("../../answers.bin");
 
     #[test]
     fn the_record_is_the_same_each_time() {
         assert!(
             encode(&recorded()) == COMMITTED,
-            "crates/replay/stdin is out of date"
+            "answers.bin is out of date"
+        );
+    }
+
+    #[test]
+    fn the_replay_has_the_same_record() {
+        assert!(
+            include_bytes!("../../../crates/replay/stdin") == COMMITTED,
+            "answers.bin and crates/replay/stdin differ"
         );
     }
 

@@ -9,7 +9,7 @@ use judge::{record, tell};
 
 use crate::Failure;
 
-const DEFAULT_PATH: &str = "../crates/replay/stdin";
+const DEFAULT_PATH: &str = "answers.bin";
 
 pub fn help() -> String {
     format!(
