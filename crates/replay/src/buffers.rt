@@ -84,7 +84,7 @@ pub(crate) fn is_zero(buffer: &[u32]) -> bool {
 }
 
 // Whether what was compared so far is the same, and the place after what is recorded of it.
-#[derive(Drop)]
+#[derive(Clone, Copy)]
 pub struct Compared {
     pub same: bool,
     pub at: usize,

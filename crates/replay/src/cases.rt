@@ -29,7 +29,7 @@ fn action(v: u32) -> KeyingAction {
 }
 
 // A key colour, and the place after it.
-#[derive(Drop)]
+#[derive(Clone, Copy)]
 struct Key {
     color: Color,
     at: usize,
@@ -51,7 +51,7 @@ fn key_at(s: &[u8], at: usize) -> Key {
 }
 
 // Settings, and the place after them.
-#[derive(Drop)]
+#[derive(Clone, Copy)]
 struct Settings {
     o: RunnerConfig,
     at: usize,
@@ -192,7 +192,7 @@ fn replay_case(s: &[u8], at: usize) -> Compared {
 }
 
 // How far a replay has come: the place, the cases that were not run, and those that differ.
-#[derive(Drop)]
+#[derive(Clone, Copy)]
 struct Progress {
     place: Place,
     skipped: u64,
@@ -218,7 +218,7 @@ fn step<R: Read>(input: &mut R, window: &mut [u8], r: Progress) -> io::Result<Pr
 
 // What came of a replay: the cases that are recorded, those that were not run, those that differ, and the bytes after
 // the last.
-#[derive(Drop)]
+#[derive(Clone, Copy)]
 pub struct Replayed {
     pub cases: u64,
     pub skipped: u64,

@@ -348,7 +348,7 @@ fn try_sheet(e: Edge, stores: bool) -> bool {
 }
 
 // A row that is asked for, the number that its check has to answer, and where in the picture the row begins.
-#[derive(Drop)]
+#[derive(Clone, Copy)]
 struct RowEdge {
     w: u32,
     h: u32,

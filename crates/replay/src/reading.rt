@@ -4,7 +4,7 @@ ghost use Rattle.std.specs.Prelude.{◌≤◌, length, IfOk};
 use std::io::{self, Read};
 
 // A number that was read, and the place after it.
-#[derive(Drop)]
+#[derive(Clone, Copy)]
 pub struct Next {
     pub value: u32,
     pub at: usize,
@@ -75,7 +75,7 @@ pub(crate) fn part(s: &[u8], from: usize, to: usize) -> &[u8] {
 }
 
 // What the window holds is its first `have` bytes; those before `at` have been read.
-#[derive(Drop)]
+#[derive(Clone, Copy)]
 pub struct Place {
     pub at: usize,
     pub have: usize,

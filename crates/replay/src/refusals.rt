@@ -6,7 +6,7 @@ use color::Color;
 use runner::{Answer, KeyingAction, RunnerConfig};
 
 // A call: the shift, the size, the lengths that are lent, and the number that it has to answer.
-#[derive(Drop)]
+#[derive(Clone, Copy)]
 struct Edge {
     shift: i32,
     w: u32,
