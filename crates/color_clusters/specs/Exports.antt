@@ -8,8 +8,8 @@ action_at action = if eqb action 0 then Keep else Discard
 
 -- the settings, put together
 abbrev pub settings : ℤ → ℤ → ℕ → ℕ → ℕ → ℕ → ℤ → ℕ → ℕ → ℕ → ℕ → ℕ → RunnerConfig
-settings is_same_color_a is_same_color_b hierarchical good_min_area good_max_area hollow_neighbours deepen_diff r g b a action
-    = record {
+settings is_same_color_a is_same_color_b hierarchical good_min_area good_max_area hollow_neighbours deepen_diff r g b a
+    action = record {
       is_same_color_a = is_same_color_a;
       is_same_color_b = is_same_color_b;
       hierarchical = hierarchical;

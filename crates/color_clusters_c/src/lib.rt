@@ -4,7 +4,8 @@
 
 ghost use Rattle.std.specs.Prelude.{◌≡◌, length};
 ghost use Rattle.rules.specs.Refusals.{row_answer};
-ghost use Rattle.rules.specs.Calls.{as_buffers, answered, with_picture, run_call, paint_call, run_and_paint_call, store_call};
+ghost use Rattle.rules.specs.Calls.{as_buffers, answered, with_picture, run_call, paint_call, run_and_paint_call};
+ghost use Rattle.rules.specs.Calls.{store_call};
 ghost use Rattle.rules.specs.Demand3.{Demand3Left};
 ghost use Rattle.color_clusters.specs.Exports.{settings};
 

@@ -1,5 +1,6 @@
 -- What the rules are written with: counted loops, tests on numbers and lists.
-use Rattle.std.specs.Prelude.{Bool, true, false, ◌&&◌, ◌||◌, List, [], ◌∷◌, ◌++◌, ℕ, zero, suc, ◌+◌, ◌-◌, leb, ltb, eqb, if◌then◌else◌}
+use Rattle.std.specs.Prelude.{Bool, true, false, ◌&&◌, ◌||◌, List, [], ◌∷◌, ◌++◌, ℕ, zero, suc, ◌+◌, ◌-◌, leb, ltb, eqb}
+use Rattle.std.specs.Prelude.{if◌then◌else◌}
 
 -- the steps f 0, f 1, .. f (n - 1), in that order, from s
 abbrev pub times {ℓ} : {S : Type ℓ} → ℕ → (ℕ → S → S) → S → S

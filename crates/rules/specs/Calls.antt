@@ -130,8 +130,8 @@ unfoldable pub store_call : ℕ → ℕ → List ℕ → List ℕ → List ℕ �
 unfolding stored_numbers is_large stored_bytes store_answer
 store_call w h labels links table outputs destination n m =
     let numbers = stored_numbers w h labels links table outputs n m in
-    let number = store_answer w h (length labels) (length links) (length table) (length outputs) (length destination) n m
-    (is_large numbers) (2 * length numbers) in
+    let number = store_answer w h (length labels) (length links) (length table) (length outputs) (length destination) n
+    m (is_large numbers) (2 * length numbers) in
     record { answer = number; destination = if eqb number 0 then stored_bytes numbers else destination }
 
 -- `ColorSum::add` and `merge`: the sum that is left (rule 4.5)

@@ -1,6 +1,7 @@
 -- Colours, sums of colours, the settings, and the two questions asked of colours: whether they are like, and how far
 -- they differ (color.rs, runner.rs; rules, sections 2 and 4).
-use Rattle.std.specs.Prelude.{Bool, true, false, not, ◌&&◌, List, ℕ, ◌+◌, ◌*◌, ◌/◌, ◌^◌, leb, ltb, eqb, length, get_or, ℤ, pos, negsuc, if◌then◌else◌}
+use Rattle.std.specs.Prelude.{Bool, true, false, not, ◌&&◌, List, ℕ, ◌+◌, ◌*◌, ◌/◌, ◌^◌, leb, ltb, eqb, length, get_or}
+use Rattle.std.specs.Prelude.{ℤ, pos, negsuc, if◌then◌else◌}
 use Rattle.std.proofs.Math.Option.{Option, none, some}
 use Rattle.rules.specs.Base.{apart}
 

@@ -1,5 +1,6 @@
 -- Demand 3, the single claim about a whole run (rules, section 12). Quoted words are the rules'.
-use Rattle.std.specs.Prelude.{◌≡◌, ◌↔◌, ◌≢◌, ◌⊎◌, Bool, ◌&&◌, List, [], ◌++◌, ℕ, ◌*◌, ◌≤◌, ◌<◌, T, ltb, length, get_or, if◌then◌else◌}
+use Rattle.std.specs.Prelude.{◌≡◌, ◌↔◌, ◌≢◌, ◌⊎◌, Bool, ◌&&◌, List, [], ◌++◌, ℕ, ◌*◌, ◌≤◌, ◌<◌, T, ltb, length, get_or}
+use Rattle.std.specs.Prelude.{if◌then◌else◌}
 use Rattle.rules.specs.Color.{RunnerConfig, ColorSum, zero_sum, is_discard, keying_on, pixel, average}
 use Rattle.rules.specs.State.{State, Event, cluster, label}
 use Rattle.rules.specs.Stage1.{is_key}

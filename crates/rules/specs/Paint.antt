@@ -1,6 +1,7 @@
 -- Painting over any buffers, also such that no run made (rules 3.4, 9.2): checks 8, 9 and 10 for each entry from last
 -- to first, and the picture, painted only when all pass.
-use Rattle.std.specs.Prelude.{Bool, true, false, not, ◌&&◌, ◌||◌, List, ℕ, zero, suc, ◌+◌, ◌*◌, leb, ltb, eqb, get_or, replicate, if◌then◌else◌}
+use Rattle.std.specs.Prelude.{Bool, true, false, not, ◌&&◌, ◌||◌, List, ℕ, zero, suc, ◌+◌, ◌*◌, leb, ltb, eqb, get_or}
+use Rattle.std.specs.Prelude.{replicate, if◌then◌else◌}
 use Rattle.rules.specs.Base.{each, times_back}
 use Rattle.rules.specs.Color.{ColorSum, average, has_average}
 use Rattle.rules.specs.Layout.{walk, slot_width, first_pixel_place, pixel_count_place, sum_place}
@@ -64,7 +65,8 @@ entries_answer size n links table outputs (suc i) =
 -- the cluster of slot k is painted with its residue average
 unfoldable pub paint_slot : List ℕ → List ℕ → ℕ → List ℕ → List ℕ
 unfolding slot_pixels five_from paint_pixel average
-paint_slot links table k picture = each (slot_pixels links table k) (paint_pixel (average (slot_residue table k))) picture
+paint_slot links table k picture =
+    each (slot_pixels links table k) (paint_pixel (average (slot_residue table k))) picture
 
 -- zeros, then entries m - 1, .. 0
 unfoldable pub paint_entries : ℕ → List ℕ → List ℕ → List ℕ → ℕ → List ℕ

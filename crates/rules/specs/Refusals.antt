@@ -1,6 +1,7 @@
 -- The answer number of each public call (rules 3.1 to 3.4). 0 is acceptance. A call checks only what it takes, in the
 -- table's order, and answers the number of the first check that fails.
-use Rattle.std.specs.Prelude.{Bool, true, not, ◌||◌, List, [], ◌∷◌, ◌++◌, ℕ, ◌+◌, ◌*◌, leb, ltb, eqb, ℤ, pos, negsuc, if◌then◌else◌}
+use Rattle.std.specs.Prelude.{Bool, true, not, ◌||◌, List, [], ◌∷◌, ◌++◌, ℕ, ◌+◌, ◌*◌, leb, ltb, eqb, ℤ, pos, negsuc}
+use Rattle.std.specs.Prelude.{if◌then◌else◌}
 use Rattle.rules.specs.Color.{ColorSum, ◌⊕◌, RunnerConfig}
 use Rattle.rules.specs.Layout.{slot_width}
 
@@ -36,7 +37,8 @@ work_length size = 8 * size + 8
 
 -- 5, of a sheet of `size` pixels: a buffer that is too short; links, table and outputs are lengths
 abbrev pub short_sheet : ℕ → ℕ → ℕ → ℕ → Bool
-short_sheet size links table outputs = ltb links size || ltb table (table_length size) || ltb outputs (outputs_length size)
+short_sheet size links table outputs =
+    ltb links size || ltb table (table_length size) || ltb outputs (outputs_length size)
 
 -- and a caller's counts
 abbrev pub bad_counts : ℕ → ℕ → ℕ → Bool

@@ -1,7 +1,8 @@
 -- The state of a run: labels, clusters, the next free number, the outputs, the areas listed, and the log of what was
 -- decided (cluster.rs, bound.rs, builder.rs; rules, sections 1 and 6). Whatever is decided changes the state by one
 -- function of this file, which also logs it.
-use Rattle.std.specs.Prelude.{Bool, ◌&&◌, List, [], ◌∷◌, ◌++◌, ℕ, ◌+◌, min, max, ltb, eqb, length, get_or, set, replicate, if◌then◌else◌}
+use Rattle.std.specs.Prelude.{Bool, ◌&&◌, List, [], ◌∷◌, ◌++◌, ℕ, ◌+◌, min, max, ltb, eqb, length, get_or, set}
+use Rattle.std.specs.Prelude.{replicate, if◌then◌else◌}
 use Rattle.rules.specs.Base.{each, insert_once}
 use Rattle.rules.specs.Color.{Color, ColorSum, zero_sum, sum_of_one, ◌⊕◌}
 

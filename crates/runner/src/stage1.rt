@@ -1,5 +1,6 @@
 // Stage 1, the label of each pixel, after `stage_1` of builder.rs.
-ghost use Rattle.std.specs.Prelude.{◌≡◌, ◌&&◌, List, ℕ, suc, ◌+◌, ◌-◌, ◌*◌, ◌/◌, ◌%◌, ◌≤◌, ◌<◌, eqb, ltb, pos, length, if◌then◌else◌};
+ghost use Rattle.std.specs.Prelude.{◌≡◌, ◌&&◌, List, ℕ, suc, ◌+◌, ◌-◌, ◌*◌, ◌/◌, ◌%◌, ◌≤◌, ◌<◌, eqb, ltb, pos, length};
+ghost use Rattle.std.specs.Prelude.{if◌then◌else◌};
 ghost use Rattle.std.proofs.Math.Option.{Option};
 ghost use Rattle.rules.specs.Grid as grid;
 ghost use Rattle.rules.specs.Color.{RunnerConfig as Config, pixel};
@@ -114,8 +115,9 @@ fn seen_from(image: &[u8], w: u32, h: u32, x: u32, y: u32, c: Color) -> Seen
 
 // Whether two pixels are like under the settings, whose shift is given as a number.
 pub(crate) fn is_same(o: RunnerConfig, shift: u32, a: ColorOrNone, b: ColorOrNone) -> bool
-    ensures { (image : List ℕ) (p q : Option ℕ) → (config_of o).is_same_color_a ≡ pos shift → option_of a
-        ≡ rules.color_at image p → option_of b ≡ rules.color_at image q → result ≡ rules.same_at (config_of o) image p q }
+    ensures { (image : List ℕ) (p q : Option ℕ) → (config_of o).is_same_color_a ≡ pos shift
+        → option_of a ≡ rules.color_at image p → option_of b ≡ rules.color_at image q
+        → result ≡ rules.same_at (config_of o) image p q }
 {
     let thres = o.is_same_color_b;
     color::is_same(a, b, shift, thres)

@@ -1,7 +1,8 @@
 -- Stage 2 told in other ways, shown equal to Stage2, for code to follow. The visiting order told by keys: a slot that
 -- is pending has its pixel count for a key, any other 0. The least key, and of several the first, is taken off and
 -- visited at that count; where it merged, its target is pending again. Stage 2 is this until no slot is pending.
-use Rattle.std.specs.Prelude.{Bool, false, not, ◌&&◌, ◌||◌, List, [], ◌∷◌, map, ℕ, ◌*◌, max, ltb, eqb, length, get_or, set, if◌then◌else◌}
+use Rattle.std.specs.Prelude.{Bool, false, not, ◌&&◌, ◌||◌, List, [], ◌∷◌, map, ℕ, ◌*◌, max, ltb, eqb, length, get_or}
+use Rattle.std.specs.Prelude.{set, if◌then◌else◌}
 use Rattle.std.proofs.Math.Option.{Option, some, none as off}
 use Rattle.rules.specs.Base.{times, member}
 use Rattle.rules.specs.Color.{RunnerConfig}
@@ -12,7 +13,8 @@ use Rattle.rules.specs.Stage2.{all_in, visit}
 -- slot j against the best of those before it
 unfoldable pub better : List ℕ → ℕ → Option ℕ → Option ℕ
 better keys j off = if eqb (get_or keys j 0) 0 then off else some j
-better keys j (some i) = if not (eqb (get_or keys j 0) 0) && ltb (get_or keys j 0) (get_or keys i 0) then some j else some i
+better keys j (some i) =
+    if not (eqb (get_or keys j 0) 0) && ltb (get_or keys j 0) (get_or keys i 0) then some j else some i
 
 -- the slot of the least key above 0, and of several the first; none where no slot is pending
 unfoldable pub next_pending : List ℕ → Option ℕ

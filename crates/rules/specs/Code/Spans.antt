@@ -1,5 +1,6 @@
 -- Spans of stage 1, for code that takes them at once: consecutive pixels of a row that go into one cluster.
-use Rattle.std.specs.Prelude.{List, [], ◌∷◌, ◌++◌, false, true, ◌&&◌, ◌≡◌, ℕ, zero, suc, ◌+◌, ◌-◌, ◌*◌, ◌/◌, ◌^◌, ◌≤◌, ◌<◌, length, get_or, set}
+use Rattle.std.specs.Prelude.{List, [], ◌∷◌, ◌++◌, false, true, ◌&&◌, ◌≡◌, ℕ, zero, suc, ◌+◌, ◌-◌, ◌*◌, ◌/◌, ◌^◌, ◌≤◌}
+use Rattle.std.specs.Prelude.{◌<◌, length, get_or, set}
 use Rattle.std.proofs.Math.Option.{some}
 use Rattle.rules.specs.Base.{apart}
 use Rattle.rules.specs.Color.{ColorSum, RunnerConfig, zero_sum, sum_of_one, ◌⊕◌, pixel}

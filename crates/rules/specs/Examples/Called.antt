@@ -182,7 +182,8 @@ unfolding store_call
 store-short = refl
 
 -- `ColorSum::merge`: the sum that is left, and refused ones
-pub sum-calls : sum_call (total 1 2 3 4 5) (total 60 70 80 90 100) ∷ sum_call (total 4294967295 0 0 0 9) (total 1 0 0 0 1)
+pub sum-calls : sum_call (total 1 2 3 4 5) (total 60 70 80 90 100)
+    ∷ sum_call (total 4294967295 0 0 0 9) (total 1 0 0 0 1)
     ∷ sum_call (total 1 0 0 0 1) (total 4294967295 0 0 0 9) ∷ []
     ≡ total 61 72 83 94 105 ∷ total 4294967295 0 0 0 9 ∷ total 1 0 0 0 1 ∷ []
 unfolding sum_call

@@ -1,6 +1,7 @@
 -- The refusals at their edges (rules, sections 3 and 13): the cases that are worked by hand, and each further number
 -- where it first appears and where it wins over a later one. Computed.
-use Rattle.std.specs.Prelude.{◌≡◌, refl, true, false, List, [], ◌∷◌, ◌++◌, map, ℕ, ◌+◌, ◌*◌, ℤ, pos, negsuc, length, replicate}
+use Rattle.std.specs.Prelude.{◌≡◌, refl, true, false, List, [], ◌∷◌, ◌++◌, map, ℕ, ◌+◌, ◌*◌, ℤ, pos, negsuc, length}
+use Rattle.std.specs.Prelude.{replicate}
 use Rattle.rules.specs.Color.{ColorSum, hierarchical_max, RunnerConfig, rgba, Keep}
 use Rattle.rules.specs.Paint.{Painted}
 use Rattle.rules.specs.Refusals.{run_answer, run_and_paint_answer, row_answer, sum_answer, paint_answer, store_answer}
@@ -113,8 +114,8 @@ pub row-edges : row_call 1 2 rows 0 ∷ row_call 1 2 rows 1 ∷ row_call 1 2 row
 unfolding row_call
 row-edges = refl
 
-pub row-answers : row_answer 1 2 8 1 ∷ row_answer 1 2 8 2 ∷ row_answer 1 2 7 2 ∷ row_answer 1 0 0 0 ∷ row_answer 1 65001 0 0
-    ∷ [] ≡ 0 ∷ 11 ∷ 6 ∷ 2 ∷ 3 ∷ []
+pub row-answers : row_answer 1 2 8 1 ∷ row_answer 1 2 8 2 ∷ row_answer 1 2 7 2 ∷ row_answer 1 0 0 0
+    ∷ row_answer 1 65001 0 0 ∷ [] ≡ 0 ∷ 11 ∷ 6 ∷ 2 ∷ 3 ∷ []
 unfolding row_answer
 row-answers = refl
 

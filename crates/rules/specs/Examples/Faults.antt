@@ -1,6 +1,7 @@
 -- Several faults at once: every pair of checks that one call can fail together, so that the order of all of them is
 -- seen (rules 3.2, 3.4). Computed; by hand from the table.
-use Rattle.std.specs.Prelude.{◌≡◌, refl, Bool, true, false, List, [], ◌∷◌, ◌++◌, map, ℕ, ◌+◌, ◌-◌, ◌*◌, ℤ, pos, length, replicate}
+use Rattle.std.specs.Prelude.{◌≡◌, refl, Bool, true, false, List, [], ◌∷◌, ◌++◌, map, ℕ, ◌+◌, ◌-◌, ◌*◌, ℤ, pos, length}
+use Rattle.std.specs.Prelude.{replicate}
 use Rattle.rules.specs.Refusals.{limit, run_answer, run_and_paint_answer, paint_answer, row_answer, store_answer}
 use Rattle.rules.specs.Calls.{paint_call}
 use Rattle.rules.specs.Examples.Edges.{shifted}

@@ -110,8 +110,8 @@ labelled_cases =
     -- a discarded pixel counts nowhere: cluster 0, which has no pixel, goes into left's, and its empty rectangle does
     -- not count
     ∷ case 2 2 (magenta ++ magenta ++ pink ++ pink) (keyed Discard)
-    (stage1_labels (0 ∷ 0 ∷ 1 ∷ 1 ∷ []) ∷ slot_count 2 ∷ outputs (1 ∷ []) ∷ all_links (0 ∷ 0 ∷ 4 ∷ 0 ∷ []) ∷ whole_slot 1
-    ((3 ∷ 2 ∷ 0 ∷ 1 ∷ 2 ∷ 2 ∷ []) ++ (500 ∷ 0 ∷ 510 ∷ 510 ∷ 2 ∷ []) ++ (500 ∷ 0 ∷ 510 ∷ 510 ∷ 2 ∷ [])
+    (stage1_labels (0 ∷ 0 ∷ 1 ∷ 1 ∷ []) ∷ slot_count 2 ∷ outputs (1 ∷ []) ∷ all_links (0 ∷ 0 ∷ 4 ∷ 0 ∷ [])
+    ∷ whole_slot 1 ((3 ∷ 2 ∷ 0 ∷ 1 ∷ 2 ∷ 2 ∷ []) ++ (500 ∷ 0 ∷ 510 ∷ 510 ∷ 2 ∷ []) ++ (500 ∷ 0 ∷ 510 ∷ 510 ∷ 2 ∷ [])
     ++ (0 ∷ 0 ∷ 0 ∷ 0 ∷ 0 ∷ [])) ∷ [])
     -- a pixel that is the key's but for one channel, alpha too, is no key pixel
     ∷ one_pixel (250 ∷ 0 ∷ 255 ∷ 255 ∷ []) key_magenta (1 ∷ [])

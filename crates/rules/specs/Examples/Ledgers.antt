@@ -25,8 +25,9 @@ first_events = added 4 1 ∷ added 3 3 ∷ added 2 3 ∷ added 1 2 ∷ added 0 1
 
 -- rule 12.2: a pixel added; a plain merge; a deepening merge; the log has the newest first
 pub ledgers : map (λ log. holdings (ledger log))
-    ([] ∷ first_events ∷ (plain 1 3 ∷ first_events) ∷ (deepened 1 3 ∷ first_events) ∷ (added 5 1 ∷ plain 1 3 ∷ first_events)
-    ∷ (deepened 3 2 ∷ plain 2 3 ∷ first_events) ∷ (plain 3 2 ∷ deepened 2 3 ∷ first_events) ∷ [])
+    ([] ∷ first_events ∷ (plain 1 3 ∷ first_events) ∷ (deepened 1 3 ∷ first_events)
+    ∷ (added 5 1 ∷ plain 1 3 ∷ first_events) ∷ (deepened 3 2 ∷ plain 2 3 ∷ first_events)
+    ∷ (plain 3 2 ∷ deepened 2 3 ∷ first_events) ∷ [])
     ≡ ([] ∷ [] ∷ [] ∷ [] ∷ [] ∷ [])
     ∷ ([] ∷ (0 ∷ 4 ∷ []) ∷ (1 ∷ []) ∷ (2 ∷ 3 ∷ []) ∷ [] ∷ [])
     ∷ ([] ∷ [] ∷ (1 ∷ []) ∷ (0 ∷ 2 ∷ 3 ∷ 4 ∷ []) ∷ [] ∷ [])

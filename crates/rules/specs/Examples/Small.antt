@@ -1,6 +1,7 @@
 -- Small examples of what the sheets worked by hand do not show: likeness, keying, averages, the pixel at a place,
 -- rectangles, the boundary. Computed.
-use Rattle.std.specs.Prelude.{◌≡◌, refl, true, false, List, [], ◌∷◌, ◌++◌, map, ℕ, ◌+◌, pos, negsuc, length, get_or, replicate}
+use Rattle.std.specs.Prelude.{◌≡◌, refl, true, false, List, [], ◌∷◌, ◌++◌, map, ℕ, ◌+◌, pos, negsuc, length, get_or}
+use Rattle.std.specs.Prelude.{replicate}
 use Rattle.std.proofs.Math.Option.{Option, some, none}
 use Rattle.rules.specs.Base.{up_to}
 use Rattle.rules.specs.Color.{Color, rgba, pixel_at, average_or_none, is_same, color_diff, exceeds}
@@ -183,8 +184,8 @@ past_the_end = refl
 abbrev one_slot : List ℕ
 one_slot = (1 ∷ 2 ∷ []) ++ replicate 9 0 ++ (5 ∷ 6 ∷ 7 ∷ 8 ∷ 1 ∷ []) ++ replicate 5 0
 
-pub none_left : label (fresh 0) 1 ∷ label_at (fresh 0) none ∷ slot_number [] 1 1 ∷ entries_answer 9 1 (1 ∷ []) one_slot [] 1
-    ∷ slot_pixels [] one_slot 0 ++ paint_entries 1 (1 ∷ []) one_slot [] 1
+pub none_left : label (fresh 0) 1 ∷ label_at (fresh 0) none ∷ slot_number [] 1 1
+    ∷ entries_answer 9 1 (1 ∷ []) one_slot [] 1 ∷ slot_pixels [] one_slot 0 ++ paint_entries 1 (1 ∷ []) one_slot [] 1
     ≡ 0 ∷ 0 ∷ 0 ∷ 0 ∷ 0 ∷ 5 ∷ 6 ∷ 7 ∷ 8 ∷ []
 unfolding fresh label_at slot_number entries_answer slot_pixels paint_entries
 none_left = refl
@@ -269,9 +270,9 @@ marked = record {
 
 abbrev changes : List (State → State)
 changes =
-    add_pixel 2 (rgba 5 5 5 5) (pixel_rect 2 0) 1 ∷ begin_cluster 2 (rgba 5 5 5 5) (pixel_rect 2 0) ∷ combine_clusters 1 2
-    ∷ lower_next 2 ∷ prepare_stage2 ∷ put_out 1 ∷ merge_cluster_into 1 2 ∷ deepen_cluster_into true 1 2 ∷ output_all ∷ drop_empty
-    ∷ []
+    add_pixel 2 (rgba 5 5 5 5) (pixel_rect 2 0) 1 ∷ begin_cluster 2 (rgba 5 5 5 5) (pixel_rect 2 0)
+    ∷ combine_clusters 1 2 ∷ lower_next 2 ∷ prepare_stage2 ∷ put_out 1 ∷ merge_cluster_into 1 2
+    ∷ deepen_cluster_into true 1 2 ∷ output_all ∷ drop_empty ∷ []
 
 abbrev parts : State → List (List ℕ)
 parts s = s.labels ∷ s.outputs ∷ s.listed ∷ (s.next_index ∷ length s.clusters ∷ []) ∷ []
@@ -288,8 +289,8 @@ pub change-edges : map (λ f. parts (f marked)) changes
     ∷ ((1 ∷ 2 ∷ 0 ∷ []) ∷ (2 ∷ 1 ∷ 2 ∷ []) ∷ (8 ∷ []) ∷ (3 ∷ 3 ∷ []) ∷ [])
     ∷ ((1 ∷ 2 ∷ 0 ∷ []) ∷ (2 ∷ []) ∷ (8 ∷ []) ∷ (3 ∷ 3 ∷ []) ∷ [])
     ∷ []
-unfolding add_pixel begin_cluster combine_clusters lower_next prepare_stage2 put_out merge_cluster_into deepen_cluster_into
-    output_all drop_empty with_pixel pixel_rect
+unfolding add_pixel begin_cluster combine_clusters lower_next prepare_stage2 put_out merge_cluster_into
+    deepen_cluster_into output_all drop_empty with_pixel pixel_rect
 change-edges = refl
 
 -- the pixels of hole children, one list after another
@@ -356,8 +357,9 @@ placed = record {
     parent = deeper true 50 (deeper true 1 new_cluster)
 
 abbrev places : List ℕ
-places = first_pixel_place ∷ pixel_count_place ∷ left_place ∷ top_place ∷ right_place ∷ bottom_place ∷ sum_place ∷ sum_count_place
-    ∷ residue_place ∷ merged_into_place ∷ depth_place ∷ num_holes_place ∷ first_hole_place ∷ next_hole_place ∷ []
+places = first_pixel_place ∷ pixel_count_place ∷ left_place ∷ top_place ∷ right_place ∷ bottom_place ∷ sum_place
+    ∷ sum_count_place ∷ residue_place ∷ merged_into_place ∷ depth_place ∷ num_holes_place ∷ first_hole_place
+    ∷ next_hole_place ∷ []
 
 pub slot-places : length (slot placed 1) ∷ map (λ f. get_or (slot placed 1) f 0) places
     ≡ slot_width ∷ 8 ∷ 2 ∷ 11 ∷ 12 ∷ 13 ∷ 14 ∷ 21 ∷ 25 ∷ 31 ∷ 2 ∷ 41 ∷ 3 ∷ 6 ∷ 51 ∷ []

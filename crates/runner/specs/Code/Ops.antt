@@ -30,7 +30,8 @@ pub record CanAdd (k i x y : ℕ) (c : Color) (L K B E : List ℕ) : Type 0 wher
 pub record Added (k i x y : ℕ) (c : Color) (L K B E L' K' B' E' : List ℕ) : Type 0 where
   pub labels : L' ≡ set L i k
   pub links : K' ≡ link_after K (head_at B k).count (get_or E k 0) (i + 1)
-  pub table : (d : Cluster) → head_at B k ≡ head_of d → B' ≡ saved_head B k (head_of (with_pixel i c (pixel_rect x y) d))
+  pub table : (d : Cluster) → head_at B k ≡ head_of d
+      → B' ≡ saved_head B k (head_of (with_pixel i c (pixel_rect x y) d))
   pub ends : E' ≡ set E k (i + 1)
 
 -- cluster f can be appended to cluster t
@@ -93,7 +94,8 @@ pub record CanHollow (room f t : ℕ) (B E : List ℕ) : Type 0 where
 
 -- where a hole list begins or goes on
 abbrev pub hole_link : ℕ → ℕ → ℕ → ℕ
-hole_link holes tail t = if eqb holes 0 then slot_width * t + first_hole_place else slot_width * (tail - 1) + next_hole_place
+hole_link holes tail t =
+    if eqb holes 0 then slot_width * t + first_hole_place else slot_width * (tail - 1) + next_hole_place
 
 -- and it was: one hole child more, last of the list
 pub record Hollowed (room f t : ℕ) (B E B' E' : List ℕ) : Type 0 where

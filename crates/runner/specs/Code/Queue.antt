@@ -1,7 +1,8 @@
 -- The queue of pending slots: a tournament tree in a flat list. The keys of the n slots stand first, then `room` pairs
 -- of a key and a slot, one for each node. Leaf k is position n + k of the tree, the children of node j are positions 2j
 -- and 2j + 1, and the root is position 1.
-use Rattle.std.specs.Prelude.{◌≡◌, ◌⊎◌, false, List, ℕ, zero, suc, ◌+◌, ◌*◌, ◌-◌, ◌%◌, ◌≤◌, ◌<◌, leb, ltb, eqb, length, get_or, set, if◌then◌else◌}
+use Rattle.std.specs.Prelude.{◌≡◌, ◌⊎◌, false, List, ℕ, zero, suc, ◌+◌, ◌*◌, ◌-◌, ◌%◌, ◌≤◌, ◌<◌, leb, ltb, eqb, length}
+use Rattle.std.specs.Prelude.{get_or, set, if◌then◌else◌}
 use Rattle.rules.specs.Code.Bounds.{count_bound}
 use Rattle.runner.specs.declared.queue.Entry.{Entry}
 use Rattle.runner.specs.declared.queue.Taken.{Taken}

@@ -1,5 +1,6 @@
 -- How the buffers hold a state of the rules.
-use Rattle.std.specs.Prelude.{◌≡◌, ◌&&◌, List, [], ◌∷◌, ℕ, suc, ◌+◌, ◌-◌, ◌*◌, ◌≤◌, ◌<◌, leb, ltb, eqb, length, get_or, set, if◌then◌else◌}
+use Rattle.std.specs.Prelude.{◌≡◌, ◌&&◌, List, [], ◌∷◌, ℕ, suc, ◌+◌, ◌-◌, ◌*◌, ◌≤◌, ◌<◌, leb, ltb, eqb, length, get_or}
+use Rattle.std.specs.Prelude.{set, if◌then◌else◌}
 use Rattle.rules.specs.State.{State, cluster, area}
 use Rattle.rules.specs.Layout.{links, slot, slot_width}
 

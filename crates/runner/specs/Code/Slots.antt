@@ -2,7 +2,8 @@
 use Rattle.std.specs.Prelude.{ℕ, suc, ◌+◌, ◌*◌, ◌≤◌, List, [], ◌∷◌, length, get_or, set, replicate}
 use Rattle.rules.specs.Color.{ColorSum}
 use Rattle.rules.specs.State as rules
-use Rattle.rules.specs.Layout.{first_of, slot_width, first_pixel_place, pixel_count_place, left_place, top_place, right_place}
+use Rattle.rules.specs.Layout.{first_of, slot_width, first_pixel_place, pixel_count_place, left_place, top_place}
+use Rattle.rules.specs.Layout.{right_place}
 use Rattle.rules.specs.Layout.{bottom_place, sum_place, sum_count_place, residue_place}
 use Rattle.rules.specs.Refusals.{largest_total}
 use Rattle.color.specs.declared.ColorSum as declared

@@ -1,5 +1,6 @@
 -- Stage 1 over the buffers: what its functions are given and what they hold.
-use Rattle.std.specs.Prelude.{◌≡◌, ◌≢◌, Bool, true, false, not, ◌&&◌, List, ℕ, ◌+◌, ◌*◌, ◌≤◌, ◌<◌, T, ltb, eqb, pos, length, get_or, replicate, if◌then◌else◌}
+use Rattle.std.specs.Prelude.{◌≡◌, ◌≢◌, Bool, true, false, not, ◌&&◌, List, ℕ, ◌+◌, ◌*◌, ◌≤◌, ◌<◌, T, ltb, eqb, pos}
+use Rattle.std.specs.Prelude.{length, get_or, replicate, if◌then◌else◌}
 use Rattle.std.proofs.Math.Option.{some}
 use Rattle.rules.specs.Color.{RunnerConfig, pixel, keying_on, is_discard}
 use Rattle.rules.specs.Grid.{up, left, up_left}
