@@ -1,0 +1,81 @@
+// Why a call is refused: the lines of rule 3.2. Every call answers `Ok`, or the first check that fails.
+#![tactic(auto)]
+
+ghost use Rattle.std.specs.Prelude.{◌≡◌};
+ghost use Rattle.refusal.specs.Refusal.{number_of, answer_of};
+
+use std::error::Error;
+use std::fmt;
+
+// A failed check.
+#[derive(Clone, Copy, Debug, PartialEq, Eq, PartialOrd, Ord, Hash)]
+pub enum Refusal {
+    Shift,
+    NoPixels,
+    TooManyPixels,
+    ImageLength,
+    BufferLength,
+    PictureLength,
+    SumTooLarge,
+    NoSlot,
+    NoAverage,
+    BadList,
+    NoRow,
+    LargeNumber,
+    DestinationLength,
+}
+
+impl Refusal {
+    // The number of the check.
+    pub fn number(self) -> u32
+        ensures { result ≡ number_of self }
+    {
+        match self {
+            Refusal::Shift => 1,
+            Refusal::NoPixels => 2,
+            Refusal::TooManyPixels => 3,
+            Refusal::ImageLength => 4,
+            Refusal::BufferLength => 5,
+            Refusal::PictureLength => 6,
+            Refusal::SumTooLarge => 7,
+            Refusal::NoSlot => 8,
+            Refusal::NoAverage => 9,
+            Refusal::BadList => 10,
+            Refusal::NoRow => 11,
+            Refusal::LargeNumber => 12,
+            Refusal::DestinationLength => 13,
+        }
+    }
+}
+
+impl fmt::Display for Refusal {
+    fn fmt<W: fmt::Write>(&self, f: &mut fmt::Formatter<W>) -> fmt::Result {
+        f.write_str(match self {
+            Refusal::Shift => "the shift is outside 0 to 7",
+            Refusal::NoPixels => "the image has no pixels",
+            Refusal::TooManyPixels => "the image has more than 65,000 pixels",
+            Refusal::ImageLength => "the image has not four bytes for each pixel",
+            Refusal::BufferLength => "a buffer is too short, or a count too large",
+            Refusal::PictureLength => "the picture has not four bytes for each pixel",
+            Refusal::SumTooLarge => "a number of the sum would pass 4,294,967,295",
+            Refusal::NoSlot => "an output names no slot",
+            Refusal::NoAverage => "the residue of an output has no average",
+            Refusal::BadList => "the list of an output leads off the image",
+            Refusal::NoRow => "the picture has no such row",
+            Refusal::LargeNumber => "a number to be stored exceeds 65,535",
+            Refusal::DestinationLength => "the destination has not the length of the sheet",
+        })
+    }
+}
+
+impl Error for Refusal {}
+
+// The number that a call answers in C: 0 where it is accepted.
+pub fn answer_of<T: Copy>(answer: &Result<T, Refusal>) -> u32
+    ensures { result ≡ answer_of answer.now }
+{
+    match answer {
+        Ok(_) => 0,
+        Err(refusal) => refusal.number(),
+    }
+}
