@@ -123,7 +123,7 @@ pub(crate) fn merge_cluster_into(
     ensures { Merged f t labels.old links.old table.old ends.old
         labels.new links.new table.new ends.new }
 {
-    let r = color::sum_of_two(slot::load_residue(table, t), slot::load_residue(table, f));
+    let r = slot::load_residue(table, t).plus(slot::load_residue(table, f));
     slot::save_residue(table, t, r);
     combine_clusters(labels, links, table, ends, f, t);
 }

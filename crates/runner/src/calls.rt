@@ -2,17 +2,18 @@
 ghost use Rattle.std.specs.Prelude.{◌≡◌, false, ◌+◌, ◌*◌, ◌≤◌, pos, length};
 ghost use Rattle.rules.specs.Refusals.{bad_shift};
 ghost use Rattle.rules.specs.Run.{stage1, stage2};
-ghost use Rattle.rules.specs.Calls.{as_buffers, answered};
+ghost use Rattle.rules.specs.Calls.{answered};
 ghost use Rattle.rules.specs.Calls as rules;
 ghost use Rattle.rules.specs.Code.Bounds.{count_bound};
 ghost use Rattle.rules.specs.Code.Accepted.{Accepted};
-ghost use Rattle.runner.specs.Types.{config_of};
+ghost use Rattle.runner.specs.Types.{config_of, buffers_of, SameLoans};
 ghost use Rattle.runner.specs.Code.Stage2.{CanStage2, Entered, Staged};
 ghost use Rattle.runner.specs.Code.Calls.{Blanked, CanRun, CanFinish, Finished};
 
 use super::stage2::Turns;
 use super::{outputs, stage1, stage2};
-use crate::{Answer, RunnerConfig};
+use crate::{Buffers, RunnerConfig};
+use image::{Counts, Size};
 
 // A shift of 0 to 7 as a number.
 fn shift_of(shift: i32) -> u32
@@ -99,42 +100,23 @@ fn finish(table: &[u32], outputs: &mut [u32], work: &mut [u32], room: usize, m: 
 }
 
 // A run whose checks are passed, over the beginnings of the buffers, which may be longer.
-pub(crate) fn accepted(
-    o: RunnerConfig,
-    w: u32,
-    h: u32,
-    image: &[u8],
-    labels: &mut [u32],
-    links: &mut [u32],
-    table: &mut [u32],
-    outputs: &mut [u32],
-    work: &mut [u32],
-) -> Answer
-    requires { Accepted (config_of o) w h (length image.now) (length labels.old) (length links.old)
-        (length table.old) (length outputs.old) (length work.old) }
-    ensures { answered result.number result.n result.m
-        (as_buffers labels.new links.new table.new outputs.new
-        work.new)
-        ≡ rules.accepted (config_of o) w h image.now
-        (as_buffers labels.old links.old table.old outputs.old
-        work.old) }
+pub(crate) fn accepted(o: RunnerConfig, size: Size, image: &[u8], buffers: &mut Buffers) -> Counts
+    requires { let b = buffers.old in
+        Accepted (config_of o) size.w size.h (length image.now) (length b.labels.now) (length b.links.now)
+        (length b.table.now) (length b.outputs.now) (length b.work.now) }
+    ensures loans { SameLoans buffers.old buffers.new }
+    ensures call { answered 0 result.n result.m (buffers_of buffers.new)
+        ≡ rules.accepted (config_of o) size.w size.h image.now (buffers_of buffers.old) }
 {
+    let (w, h) = (size.w, size.h);
     let size = (w * h) as usize;
     let room = size + 1;
-    let t = both_stages(
-        image,
-        &mut labels[0..size],
-        &mut links[0..size],
-        table,
-        &mut work[0..8 * room],
-        o,
-        w,
-        h,
-    );
+    let labels = &mut buffers.labels[0..size];
+    let links = &mut buffers.links[0..size];
+    let table = &mut *buffers.table;
+    let outputs = &mut *buffers.outputs;
+    let work = &mut *buffers.work;
+    let t = both_stages(image, labels, links, table, &mut work[0..8 * room], o, w, h);
     let m = finish(table, outputs, work, room, t.m);
-    Answer {
-        number: 0,
-        n: t.n,
-        m,
-    }
+    Counts { n: t.n, m }
 }

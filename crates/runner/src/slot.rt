@@ -122,7 +122,7 @@ impl Head {
             first: 0,
             count: 0,
             rect: BoundingRect::empty(),
-            sum: color::cleared(self.sum),
+            sum: ColorSum::default(),
         }
     }
 
@@ -136,7 +136,7 @@ impl Head {
             first: first_of(self.count, self.first, i + 1),
             count: self.count + 1,
             rect: self.rect.add_x_y(x, y),
-            sum: color::sum_with(self.sum, c),
+            sum: self.sum.plus(ColorSum::from(c)),
         }
     }
 
@@ -149,7 +149,7 @@ impl Head {
             first: first_of(self.count, self.first, other.first),
             count: self.count + other.count,
             rect: self.rect.merge(other.rect),
-            sum: color::sum_of_two(self.sum, other.sum),
+            sum: self.sum.plus(other.sum),
         }
     }
 }

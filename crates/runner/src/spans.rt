@@ -14,7 +14,7 @@ use super::bound::BoundingRect;
 use super::slot::Head;
 use super::{builder, keying, labelling, slot, stage1};
 use crate::RunnerConfig;
-use color::{ColorOrNone, ColorSum};
+use color::ColorSum;
 
 // Each of n pixels from i on is linked to the one after it.
 fn chain_links(links: &mut [u32], i: u32, n: u32)
@@ -33,10 +33,10 @@ fn sum_colors(image: &[u8], i: u32, n: u32) -> ColorSum
     requires { (4 * (i + n) ≤ length image.now) × (i + n < count_bound) }
     ensures { sum_of result ≡ sum_from image.now i n }
 {
-    let mut s = color::no_sum();
+    let mut s = ColorSum::default();
     let mut j = 0;
     while j < n {
-        s = color::sum_with(s, keying::color_at(image, i + j));
+        s = s.plus(ColorSum::from(keying::color_at(image, i + j)));
         j += 1;
     }
     s
@@ -96,10 +96,10 @@ fn extends(
     if labels[(i - w) as usize] != k {
         return false;
     }
-    let c = ColorOrNone::Some(keying::color_at(image, i));
-    let up = ColorOrNone::Some(keying::color_at(image, i - w));
+    let c = Some(keying::color_at(image, i));
+    let up = Some(keying::color_at(image, i - w));
     if stage1::is_same(o, shift, c, up) {
-        let up_left = ColorOrNone::Some(keying::color_at(image, i - w - 1));
+        let up_left = Some(keying::color_at(image, i - w - 1));
         if stage1::is_same(o, shift, c, up_left) {
             return !keying::is_key(image, o, i);
         }

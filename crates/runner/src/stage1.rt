@@ -18,16 +18,16 @@ ghost use Rattle.runner.specs.Code.Stage1.{Placing, Meeting, Sided, Taking, Blan
 
 use super::{builder, keying, slot, spans};
 use crate::RunnerConfig;
-use color::{Color, ColorOrNone};
+use color::Color;
 
 // What a pixel is compared with: its own colour, and the pixels to the left of it, above it, and to the left of that
 // one; none off the image. Each is read once.
 #[derive(Clone, Copy)]
 struct Seen {
     own: Color,
-    left: ColorOrNone,
-    up: ColorOrNone,
-    up_left: ColorOrNone,
+    left: Option<Color>,
+    up: Option<Color>,
+    up_left: Option<Color>,
 }
 
 // The next free number, and the number of slots.
@@ -65,34 +65,34 @@ struct Target {
 }
 
 // The pixel to the left of column x, row y; none at the border.
-fn left_of(image: &[u8], w: u32, h: u32, x: u32, y: u32) -> ColorOrNone
+fn left_of(image: &[u8], w: u32, h: u32, x: u32, y: u32) -> Option<Color>
     ensures { (i : ℕ) → Spot w h i x y → length image.now ≡ 4 * (w * h)
         → option_of result ≡ rules.color_at image.now (grid.left w i) }
 {
     if x == 0 {
-        return ColorOrNone::None;
+        return None;
     }
     color::pixel_at(image, w, h, x - 1, y)
 }
 
 // The pixel above.
-fn up_of(image: &[u8], w: u32, h: u32, x: u32, y: u32) -> ColorOrNone
+fn up_of(image: &[u8], w: u32, h: u32, x: u32, y: u32) -> Option<Color>
     ensures { (i : ℕ) → Spot w h i x y → length image.now ≡ 4 * (w * h)
         → option_of result ≡ rules.color_at image.now (grid.up w i) }
 {
     if y == 0 {
-        return ColorOrNone::None;
+        return None;
     }
     color::pixel_at(image, w, h, x, y - 1)
 }
 
 // The pixel to the left of the one above.
-fn up_left_of(image: &[u8], w: u32, h: u32, x: u32, y: u32) -> ColorOrNone
+fn up_left_of(image: &[u8], w: u32, h: u32, x: u32, y: u32) -> Option<Color>
     ensures { (i : ℕ) → Spot w h i x y → length image.now ≡ 4 * (w * h)
         → option_of result ≡ rules.color_at image.now (grid.up_left w i) }
 {
     if y == 0 {
-        return ColorOrNone::None;
+        return None;
     }
     left_of(image, w, h, x, y - 1)
 }
@@ -114,7 +114,7 @@ fn seen_from(image: &[u8], w: u32, h: u32, x: u32, y: u32, c: Color) -> Seen
 }
 
 // Whether two pixels are like under the settings, whose shift is given as a number.
-pub(crate) fn is_same(o: RunnerConfig, shift: u32, a: ColorOrNone, b: ColorOrNone) -> bool
+pub(crate) fn is_same(o: RunnerConfig, shift: u32, a: Option<Color>, b: Option<Color>) -> bool
     ensures { (image : List ℕ) (p q : Option ℕ) → (config_of o).is_same_color_a ≡ pos shift
         → option_of a ≡ rules.color_at image p → option_of b ≡ rules.color_at image q
         → result ≡ rules.same_at (config_of o) image p q }
@@ -132,7 +132,7 @@ fn left_meets_up(o: RunnerConfig, shift: u32, l: u32, u: u32, p: Seen) -> bool
         return false;
     }
     let own = p.own;
-    let c = ColorOrNone::Some(own);
+    let c = Some(own);
     let left = p.left;
     let up = p.up;
     if is_same(o, shift, left, up) {
@@ -149,7 +149,7 @@ fn joins(o: RunnerConfig, shift: u32, p: Seen) -> Into
         → result ≡ joined (config_of o) w image i }
 {
     let own = p.own;
-    let c = ColorOrNone::Some(own);
+    let c = Some(own);
     let up_left = p.up_left;
     let up = p.up;
     let left = p.left;
@@ -435,7 +435,7 @@ fn take_pixel(
         → Holding (w * h) (rules.taken (config_of o) w image.now (w * h) (suc i)) t₀ labels.new
         links.new table.new ends.new result.next_index result.count }
 {
-    let ColorOrNone::Some(c) = color::pixel_at(image, w, h, x, y) else {
+    let Some(c) = color::pixel_at(image, w, h, x, y) else {
         return s;
     };
     let p = seen_from(image, w, h, x, y, c);

@@ -11,7 +11,7 @@ combine_clusters-requires c = rw c.save_residue.ensures (residue-append _ _ _ c.
 pub returns : goal.returns
 returns c = let fit : Adds (sum_of c.load_residue.result) (sum_of c.load_residue-2.result) = rw (c.load_residue-2.ensures, c.load_residue.ensures) c.requires.residue in
     record {
-      r = c.sum_of_two-r.result;
-      residue = rw (← c.load_residue-2.ensures, ← c.load_residue.ensures) (c.sum_of_two-r.ensures ∙ adds-taken fit);
+      r = c.plus-r.result;
+      residue = rw (← c.load_residue-2.ensures, ← c.load_residue.ensures) (c.plus-r.ensures ∙ adds-taken fit);
       combined = rw (← c.save_residue.ensures) c.combine_clusters.ensures;
     }

@@ -9,6 +9,8 @@ use Rattle.rules.specs.Code.Ranges.{Fits}
 use Rattle.rules.specs.Code.Spans.{sum_from}
 use Rattle.rules.proofs.Spans.{sum_fits}
 use Rattle.rules.specs.Code.Bounds.{count_bound}
+use Rattle.rules.specs.Calls.{sum_call}
+use Rattle.color.specs.Colors.{sum_of}
 use Rattle.runner.specs.Code.Slots.{Adds}
 use Rattle.runner.proofs.Slots.{adds-taken}
 use Rattle.runner.proofs.spans.sum_colors.Goals as goal
@@ -32,8 +34,8 @@ more image i j e f = ap₂ (λ a b. a ⊕ sum_of_one b) e f ∙ ap (sum_from ima
 
 pub loop-j-init : goal.loop-j-init
 unfolding sum_from
-loop-j-init c = (omega arith, c.no_sum-s.ensures)
+loop-j-init c = (omega arith, cc)
 
 pub loop-j-preserved : goal.loop-j-preserved
 loop-j-preserved c = let more-fits = one-fits c.args.image.now (λ p. omega (arith, c.shared_slice_known-1.given p)) c.args.i c.loop-j.j (omega (arith, c.loop-j-test.true, c.requires)) c.loop-j.invariant.1 c.color_at.ensures in
-    (omega (arith, c.loop-j-test.true), c.sum_with-s.ensures ∙ adds-taken more-fits ∙ more _ _ _ c.loop-j.invariant.1 c.color_at.ensures)
+    (omega (arith, c.loop-j-test.true), c.plus-s.ensures ∙ ap (sum_call (sum_of c.loop-j.s)) c.from.ensures ∙ adds-taken more-fits ∙ more _ _ _ c.loop-j.invariant.1 c.color_at.ensures)
