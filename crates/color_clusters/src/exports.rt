@@ -270,10 +270,7 @@ pub fn color_clusters_store(
         ≡ store_call w h labels.now links.now table.now outputs.now
         destination.old n m }
 {
-    let stored = sheet::store(
-        clusters(w, h, links, table, outputs, n, m),
-        labels,
-        destination,
-    );
+    let kept = clusters(w, h, links, table, outputs, n, m);
+    let stored = sheet::store(kept, labels, destination);
     refusal::answer_of(&stored)
 }

@@ -20,7 +20,7 @@ use Rattle.rules.specs.Code.Bounds.{count_bound}
 use Rattle.color.specs.Colors.{color_of, option_of}
 use Rattle.color.specs.declared.Color as declared
 use Rattle.std.specs.Prelude.{Option as Maybe, Some, None}
-use Rattle.runner.specs.Code.Stage1.{Given, Spot}
+use Rattle.runner.specs.Code.Given.{Given, Spot}
 use Rattle.runner.proofs.Places.{place_in}
 
 -- a pixel of the image is in one of its rows

@@ -10,6 +10,8 @@ ghost use Rattle.runner.specs.Types.{config_of, buffers_of, SameLoans};
 ghost use Rattle.runner.specs.Code.Stage2.{CanStage2, Entered, Staged};
 ghost use Rattle.runner.specs.Code.Calls.{Blanked, CanRun, CanFinish, Finished};
 
+use super::builder::Builder;
+use super::input::Input;
 use super::stage2::Turns;
 use super::{outputs, stage1, stage2};
 use crate::{Buffers, RunnerConfig};
@@ -53,18 +55,20 @@ fn label_image(
     let room = (w * h) as usize + 1;
     let shift = o.is_same_color_a;
     blank(labels, links, work, room);
-    let s = stage1::stage_1(
+    let input = Input {
+        o,
+        shift: shift_of(shift),
         image,
+        w,
+        h,
+    };
+    let mut b = Builder {
         labels,
         links,
         table,
-        &mut work[3 * room..5 * room],
-        o,
-        shift_of(shift),
-        w,
-        h,
-    );
-    s.count
+        ends: &mut work[3 * room..5 * room],
+    };
+    stage1::stage_1(&mut b, input).count
 }
 
 // Both stages.

@@ -8,6 +8,7 @@ mod calls;
 mod checks;
 mod cluster;
 mod geometry;
+mod input;
 mod keying;
 mod labelling;
 mod outputs;

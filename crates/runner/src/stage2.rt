@@ -15,8 +15,9 @@ ghost use Rattle.runner.specs.Code.Stage2.{CanGrow};
 ghost use Rattle.runner.specs.Code.Stage2.{Grown, Between, Chosen, Visiting, Aimed, Deepening, Visited, Entered};
 ghost use Rattle.runner.specs.Code.Stage2.{CanStage2, Staged};
 
+use super::builder::Builder;
 use super::cluster::Nearest;
-use super::{bound, builder, cluster, geometry, keying, queue, slot};
+use super::{bound, cluster, geometry, keying, queue, slot};
 use crate::{HIERARCHICAL_MAX, RunnerConfig};
 
 // What stage 2 carries from turn to turn: slots, outputs, turns made, and the largest pixel count.
@@ -184,10 +185,15 @@ fn deepen_into_nearest(
     let r = room as usize;
     let to = near.target;
     let put = put_out(work, r, t, k);
-    builder::deepen_cluster_into(labels, links, table, &mut work[3 * r..5 * r], k, to);
+    let mut b = Builder {
+        labels,
+        links,
+        table,
+        ends: &mut work[3 * r..5 * r],
+    };
+    b.deepen_cluster_into(k, to);
     if near.count <= o.hollow_neighbours {
-        builder::append_hole(table, &mut work[3 * r..5 * r], room, k, to);
-        return grown(table, work, r, put, to);
+        b.append_hole(room, k, to);
     }
     grown(table, work, r, put, to)
 }
@@ -227,7 +233,13 @@ fn merge_into_nearest(
         return deepen_into_nearest(labels, links, table, work, o, room, t, k, near);
     }
     let to = near.target;
-    builder::merge_cluster_into(labels, links, table, &mut work[3 * r..5 * r], k, to);
+    let mut b = Builder {
+        labels,
+        links,
+        table,
+        ends: &mut work[3 * r..5 * r],
+    };
+    b.merge_cluster_into(k, to);
     grown(table, work, r, t, to)
 }
 

@@ -6,7 +6,8 @@ use lib.ListN.{length}
 use Rattle.rules.specs.Color.{RunnerConfig}
 use Rattle.rules.specs.Layout.{slot_width}
 use Rattle.runner.specs.Code.Slots.{cleared_slot}
-use Rattle.runner.specs.Code.Stage1.{Given, Taking}
+use Rattle.runner.specs.Code.Given.{Given}
+use Rattle.runner.specs.Code.Stage1.{Taking}
 use Rattle.runner.proofs.SpanLaws.{row-end}
 use Rattle.runner.proofs.Spots.{spot_of}
 use Rattle.runner.proofs.Stage1Steps.{held-fresh, held_all}

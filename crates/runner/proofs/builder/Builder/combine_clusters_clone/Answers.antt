@@ -15,7 +15,7 @@ use Rattle.runner.specs.Code.Slots.{Adds, head_at, head_of, saved_head}
 use Rattle.runner.specs.Code.Rep.{link_after}
 use Rattle.runner.specs.Code.Labelling.{CanRelabel}
 use Rattle.runner.specs.Code.Ops.{CanAppend, Appended}
-use Rattle.runner.proofs.builder.combine_clusters_clone.Goals as goal
+use Rattle.runner.proofs.builder.Builder.combine_clusters_clone.Goals as goal
 
 -- what relabelling asks
 asks-list : {f t first count : ℕ} {L K B E : List ℕ} → first ≡ get_or B (slot_width * f + first_pixel_place) 0 → count ≡ get_or B (slot_width * f + pixel_count_place) 0 → CanAppend f t L K B E → CanRelabel L K first count
@@ -52,7 +52,7 @@ module _ {f t : ℕ} {L K B E : List ℕ} {from to : Head} (given : from ≡ hea
 pub relabel-requires : goal.relabel-requires
 relabel-requires c = asks-list c.first_pixel.ensures c.count_of.ensures c.requires
 
-pub returns : goal.returns
-returns c = appended c.load_head-from.ensures c.load_head-to.ensures
+pub returns-clause-appended : goal.returns-clause-appended
+returns-clause-appended c = appended c.load_head-from.ensures c.load_head-to.ensures
     c.first_pixel.ensures c.count_of.ensures c.relabel.ensures c.link_after.ensures c.with_cluster.ensures c.save_head.ensures
     c.move_tail.ensures
