@@ -13,8 +13,7 @@ use lib.Seq.{get_or-set_same, get_or-set_other, set-get_or}
 use borrow.Author.Tests.{ltb-true, ltb-false, lt-ltb, le-ltb, eqb-true, eqb-false, le-leb, lt-leb}
 use Rattle.rules.proofs.Facts.{both_true}
 use Rattle.runner.specs.declared.queue.Entry.{Entry}
-use Rattle.runner.specs.declared.queue.Taken.{Taken}
-use Rattle.runner.specs.Code.Queue.{Sized, leaf, node, entry_at, order_of, first_entry, beside_of, with_node, first_below, Tree, refreshed, Refreshed, First}
+use Rattle.runner.specs.Code.Queue.{Sized, leaf, node, entry_at, order_of, first_entry, beside_of, with_node, first_below, Tree, refreshed, First}
 
 -- ---- the order of entries
 
@@ -260,25 +259,25 @@ climb-start queue n room k v S b H = record {
         (λ y. (get_or-set_other queue k (room + 2 * x) v 0 (λ e. omega (arith, S.within)), get_or-set_other queue k (room + 2 * x + 1) v 0 (λ e. omega (arith, S.within))))
         (λ y. get_or-set_other queue k (x - n) v 0 (λ e. d (omega arith)))
 
-module _ (queue₀ queue next : List ℕ) (n room x : ℕ) (e : Entry) (C : Climbing queue₀ queue n room x e) (l : 1 < x) (t : Taken) (R : Refreshed queue next n room (x / 2) t) where
+module _ (queue₀ queue next : List ℕ) (n room x : ℕ) (e : Entry) (C : Climbing queue₀ queue n room x e) (l : 1 < x) where
   above_in : x / 2 < n
   above_in = omega (arith, C.inside)
 
   -- a node made from its children leaves at most the node above it
-  pub climb-up : Climbing queue₀ next n room (x / 2) t.entry
-  climb-up = subst (λ q. Climbing queue₀ q n room (x / 2) t.entry) (sym R.made) (record {
+  pub climb-up : (t : Entry) → next ≡ refreshed queue n room (x / 2) → t ≡ first_below queue n room (x / 2) → Climbing queue₀ next n room (x / 2) t
+  climb-up t m f = subst (λ q. Climbing queue₀ q n room (x / 2) t) (sym m) (record {
     sized = subst (Sized n room) (sym (made-length queue n room C.sized (x / 2) above_in)) C.sized;
     long = made-length queue n room C.sized (x / 2) above_in ∙ C.long;
     inside = omega (arith, C.inside);
-    stands = R.first ∙ sym (made-node queue n room C.sized (x / 2) above_in);
+    stands = f ∙ sym (made-node queue n room C.sized (x / 2) above_in);
     but = λ i p q d. made_holds queue n room C.sized (x / 2) above_in i p q d (C.but i p q);
     keys = λ y b. made-keys queue n room C.sized (x / 2) above_in y b ∙ C.keys y b;
   })
 
   -- where the node is as it was, nothing is left to do
-  pub climb-stop : t.changed ≡ false → Tree next n room
+  pub climb-stop : next ≡ refreshed queue n room (x / 2) → next ≡ queue → Tree next n room
   unfolding Tree
-  climb-stop z i p q = by_cases (ℕ_discrete i (x / 2 / 2)) (λ y. subst (λ g. entry_at g n room i ≡ first_below g n room i) (sym (R.kept z)) (C.but i p q (λ u. omega arith))) (climb-up.but i p q)
+  climb-stop m z i p q = by_cases (ℕ_discrete i (x / 2 / 2)) (λ y. subst (λ g. entry_at g n room i ≡ first_below g n room i) (sym z) (C.but i p q (λ u. omega arith))) ((climb-up (first_below queue n room (x / 2)) m refl).but i p q)
 
 pub climb-end : (queue₀ queue : List ℕ) (n room x : ℕ) (e : Entry) → x ≤ 1 → Climbing queue₀ queue n room x e → Tree queue n room
 unfolding Tree

@@ -13,18 +13,6 @@ pub(crate) struct BoundingRect {
     pub(crate) bottom: u32,
 }
 
-fn min(x: u32, y: u32) -> u32
-    ensures { result ≡ Prim.Native.Nat.min x y }
-{
-    if x < y { x } else { y }
-}
-
-pub(crate) fn max(x: u32, y: u32) -> u32
-    ensures { result ≡ Prim.Native.Nat.max x y }
-{
-    if x < y { y } else { x }
-}
-
 impl BoundingRect {
     // The empty rectangle.
     pub(crate) fn empty() -> Self
@@ -56,10 +44,10 @@ impl BoundingRect {
             return other;
         }
         BoundingRect {
-            left: min(self.left, other.left),
-            top: min(self.top, other.top),
-            right: max(self.right, other.right),
-            bottom: max(self.bottom, other.bottom),
+            left: self.left.min(other.left),
+            top: self.top.min(other.top),
+            right: self.right.max(other.right),
+            bottom: self.bottom.max(other.bottom),
         }
     }
 

@@ -70,14 +70,12 @@ pub(crate) fn has_interior(
         image.now labels.now w h k (walk (λ p. get_or links.now p 0) first count) }
 {
     let mut at = first;
-    let mut left = count;
-    while 0 < left {
+    for _ in 0..count {
         let p = at - 1;
         if surrounded(image, labels, o, w, h, k, p) {
             return true;
         }
         at = links[p as usize];
-        left = left - 1;
     }
     false
 }

@@ -11,11 +11,7 @@ pub(crate) fn fill(labels: &mut [u32], i: u32, n: u32, k: u32)
     requires { (i + n ≤ length labels.old) × (i + n < count_bound) }
     ensures { labels.new ≡ set_from labels.old i n k }
 {
-    let mut j = 0;
-    while j < n {
-        labels[(i + j) as usize] = k;
-        j += 1;
-    }
+    labels[i as usize..(i + n) as usize].fill(k);
 }
 
 // How many links of the list of `left` pixels from `at`, its first ones, each lead to the next pixel of the image.
@@ -24,14 +20,12 @@ fn stretch(links: &[u32], at: u32, left: u32) -> u32
     requires left_nonzero { 0 < left }
     ensures { (result < left) × Consecutive links.now at result }
 {
-    let mut n = 0;
-    while n + 1 < left {
+    for n in 0..left - 1 {
         if links[(at - 1 + n) as usize] != at + n + 1 {
             return n;
         }
-        n += 1;
     }
-    n
+    left - 1
 }
 
 // What is left of a list: its first pixel, plus one, and the number of its pixels.

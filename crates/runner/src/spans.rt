@@ -21,10 +21,8 @@ fn chain_links(links: &mut [u32], i: u32, n: u32)
     requires { (i + n ≤ length links.old) × (i + n < count_bound) }
     ensures { links.new ≡ linked_from links.old i n }
 {
-    let mut j = 0;
-    while j < n {
-        links[(i + j) as usize] = i + j + 2;
-        j += 1;
+    for j in i..i + n {
+        links[j as usize] = j + 2;
     }
 }
 
@@ -34,10 +32,8 @@ fn sum_colors(image: &[u8], i: u32, n: u32) -> ColorSum
     ensures { sum_of result ≡ sum_from image.now i n }
 {
     let mut s = color::no_sum();
-    let mut j = 0;
-    while j < n {
-        s = color::sum_with(s, keying::color_at(image, i + j));
-        j += 1;
+    for j in i..i + n {
+        s = color::sum_with(s, keying::color_at(image, j));
     }
     s
 }
@@ -111,13 +107,7 @@ fn extends(
 fn bound_of(t: i32) -> u8
     ensures { (n : ℕ) → t ≡ pos n → result ≤ n }
 {
-    if t < 0 {
-        return 0;
-    }
-    if 255 < t {
-        return 255;
-    }
-    t as u8
+    t.clamp(0, 255) as u8
 }
 
 // The same for each byte of four pixels; alpha may be anything.
@@ -132,7 +122,7 @@ pub(crate) fn limits_of(o: RunnerConfig) -> [u8; 16]
 fn far(x: u8, y: u8, limit: u8) -> u8
     ensures { (result ≤ 1) × (result ≡ 0 → apart x y ≤ limit) }
 {
-    if limit < color::distance(x, y) { 1 } else { 0 }
+    u8::from(limit < color::distance(x, y))
 }
 
 // How many bytes of the four pixels from a on, shifted, are further than their limit from those of the four from b on,
@@ -144,12 +134,10 @@ fn four_far(image: &[u8], a: u32, b: u32, shift: u32, limits: &[u8; 16]) -> u8
     let p = 4 * (a as usize);
     let q = 4 * (b as usize);
     let mut n: u8 = 0;
-    let mut j = 0;
-    while j < 16 {
+    for j in 0..16 {
         let x = image[p + j] >> shift;
         let d = limits[j];
-        n = n + far(x, image[q + j] >> shift, d) + far(x, image[q + j - 4] >> shift, d);
-        j += 1;
+        n += far(x, image[q + j] >> shift, d) + far(x, image[q + j - 4] >> shift, d);
     }
     n
 }
@@ -217,14 +205,13 @@ fn fours(
     ensures { (result ≤ room) × (Fitting (config_of o) shift limits.now
         → AllExtend (config_of o) w image.now labels.now k i result) }
 {
-    let mut n = 0;
-    while n + 4 <= room {
+    for four in 0..room / 4 {
+        let n = 4 * four;
         if !four_extend(image, labels, o, shift, limits, w, i + n, k) {
             return n;
         }
-        n += 4;
     }
-    n
+    4 * (room / 4)
 }
 
 // How many pixels from pixel i on, at column x and row y, extend the cluster of the pixel to the left of i.
@@ -254,12 +241,11 @@ pub(crate) fn span_length(
     if !extends(image, labels, o, shift, w, i, k) {
         return 0;
     }
-    let mut n = 1 + fours(image, labels, o, shift, limits, w, i + 1, k, w - x - 1);
-    while n < w - x {
+    let room = w - x;
+    for n in 1 + fours(image, labels, o, shift, limits, w, i + 1, k, room - 1)..room {
         if !extends(image, labels, o, shift, w, i + n, k) {
             return n;
         }
-        n += 1;
     }
-    n
+    room
 }
