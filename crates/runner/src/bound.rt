@@ -5,7 +5,8 @@ ghost use Rattle.rules.specs.State.{is_empty, merge_rect, pixel_rect};
 ghost use Rattle.rules.specs.Code.Bounds.{count_bound};
 ghost use Rattle.runner.specs.Types.{rect_of};
 
-#[derive(Clone, Copy)]
+// All zero by default, the empty rectangle.
+#[derive(Clone, Copy, Default)]
 pub(crate) struct BoundingRect {
     pub(crate) left: u32,
     pub(crate) top: u32,
@@ -14,18 +15,6 @@ pub(crate) struct BoundingRect {
 }
 
 impl BoundingRect {
-    // The empty rectangle.
-    pub(crate) fn empty() -> Self
-        ensures { rect_of result ≡ Rattle.rules.specs.State.empty_rect }
-    {
-        BoundingRect {
-            left: 0,
-            top: 0,
-            right: 0,
-            bottom: 0,
-        }
-    }
-
     // Whether it has neither width nor height.
     pub(crate) fn is_empty(self) -> bool
         ensures { result ≡ is_empty (rect_of self) }

@@ -117,7 +117,7 @@ impl Head {
         Head {
             first: 0,
             count: 0,
-            rect: BoundingRect::empty(),
+            rect: BoundingRect::default(),
             sum: color::cleared(self.sum),
         }
     }

@@ -4,7 +4,7 @@ use Rattle.runner.proofs.labelling.stretch.Goals as goal
 use Rattle.runner.proofs.labelling.stretch.Goals.{In-loop-n}
 
 -- the pixel whose link is read
-within : (c : In-loop-n) → (let a = c.args in (1 ≤ a.at) × (a.at - 1 + c.loop-n.n < length a.links.now) × (a.at + c.loop-n.n < 2000001))
+within : (c : In-loop-n) → (let a = c.args in (1 ≤ a.rest.at) × (a.rest.at - 1 + c.loop-n.n < length a.links.now) × (a.rest.at + c.loop-n.n < 2000001))
 within c =
     let C = c.requires.by_index.1 in
     let s = (next-step C c.requires.left_nonzero).some in
