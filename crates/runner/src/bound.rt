@@ -16,6 +16,7 @@ pub(crate) struct BoundingRect {
 
 impl BoundingRect {
     // Whether it has neither width nor height.
+    #[tactic(auto, unfolding(rules::specs::State::is_empty))]
     pub(crate) fn is_empty(self) -> bool
         ensures { result ≡ is_empty (rect_of self) }
     {
@@ -23,6 +24,7 @@ impl BoundingRect {
     }
 
     // The smallest rectangle around both; an empty one does not count.
+    #[tactic(auto, unfolding(rules::specs::State::merge_rect))]
     pub(crate) fn merge(self, other: BoundingRect) -> Self
         ensures { rect_of result ≡ merge_rect (rect_of self) (rect_of other) }
     {
@@ -41,6 +43,7 @@ impl BoundingRect {
     }
 
     // The rectangle with the pixel at column x, row y.
+    #[tactic(auto, unfolding(rules::specs::State::pixel_rect))]
     pub(crate) fn add_x_y(self, x: u32, y: u32) -> Self
         requires { (x < count_bound) × (y < count_bound) }
         ensures { rect_of result ≡ merge_rect (rect_of self) (pixel_rect x y) }

@@ -62,6 +62,7 @@ fn relabel_stretch(labels: &mut [u32], links: &[u32], rest: Rest, t: u32) -> Res
 }
 
 // Labels the pixels of the list of count pixels from first with t.
+#[tactic(auto, using(rules::proofs::Walks::walk_none))]
 pub(crate) fn relabel(labels: &mut [u32], links: &[u32], first: u32, count: u32, t: u32)
     requires { CanRelabel labels.old links.now first count }
     ensures { labels.new

@@ -19,6 +19,7 @@ pub(crate) struct Entry {
 }
 
 // What stands at position x: a leaf's key and slot, or what a node holds.
+#[tactic(auto, unfolding(crate::specs::Code::Queue::entry_at))]
 fn at(queue: &[u32], n: usize, room: usize, x: usize) -> Entry
     requires sized { Sized n room (length queue.now) }
     requires x_bound { x < 2 * n }
@@ -47,6 +48,7 @@ fn order_of(e: Entry) -> u64
 
 // The smaller key, of equal keys the smaller slot. One comparison, since which of two entries comes first is hard to
 // foretell.
+#[tactic(auto, unfolding(crate::specs::Code::Queue::first_entry))]
 fn first_entry(a: Entry, b: Entry) -> Entry
     ensures { result ≡ first_entry a b }
 {
@@ -86,6 +88,7 @@ pub(crate) fn build(queue: &mut [u32], n: usize, room: usize)
 
 // The node above position x, where e stands, takes the first of its children; answers it, or None where the node held it
 // already: then no node above changes either.
+#[tactic(auto, using(crate::proofs::Tournament::first_beside, crate::proofs::Tournament::held_node, crate::proofs::Tournament::kept_node))]
 fn refresh(queue: &mut [u32], n: usize, room: usize, x: usize, e: Entry) -> Option<Entry>
     requires sized { Sized n room (length queue.old) }
     requires lt_x { (1 < x) × (x < 2 * n) }
@@ -123,6 +126,7 @@ pub(crate) fn set_key(queue: &mut [u32], n: usize, room: usize, k: usize, key: u
 }
 
 // The pending slot with the least key, of several the least slot; None where no slot is pending.
+#[tactic(auto, using(crate::proofs::Tournament::root_first))]
 pub(crate) fn first(queue: &[u32], n: usize, room: usize) -> Option<Entry>
     requires sized { Sized n room (length queue.now) }
     requires tree { Tree queue.now n room }

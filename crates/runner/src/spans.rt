@@ -17,6 +17,7 @@ use crate::RunnerConfig;
 use color::{ColorOrNone, ColorSum};
 
 // Each of n pixels from i on is linked to the one after it.
+#[tactic(auto, unfolding(crate::specs::Code::Spans::linked_from))]
 fn chain_links(links: &mut [u32], i: u32, n: u32)
     requires { (i + n ≤ length links.old) × (i + n < count_bound) }
     ensures { links.new ≡ linked_from links.old i n }
