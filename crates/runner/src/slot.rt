@@ -111,7 +111,6 @@ fn first_of(count: u32, first: u32, second: u32) -> u32
 
 impl Head {
     // With nothing in it, as that of a new cluster.
-    #[tactic(auto, unfolding(rules::specs::Layout::first_of))]
     pub(crate) fn cleared(self) -> Head
         ensures { result ≡ head_of new_cluster }
     {
