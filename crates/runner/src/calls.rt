@@ -31,9 +31,9 @@ fn blank(labels: &mut [u32], links: &mut [u32], work: &mut [u32], room: usize)
     ensures { Blanked room labels.old links.old work.old
         labels.new links.new work.new }
 {
-    outputs::clear(labels);
-    outputs::clear(links);
-    outputs::clear(&mut work[5 * room..6 * room]);
+    labels.fill(0);
+    links.fill(0);
+    work[5 * room..6 * room].fill(0);
 }
 
 // Stage 1 from blank buffers; answers the number of slots.
@@ -99,7 +99,7 @@ fn finish(table: &[u32], outputs: &mut [u32], work: &mut [u32], room: usize, m: 
         outputs.new work.new result }
 {
     let kept = outputs::drop_empty(table, &work[6 * room..8 * room], outputs, m);
-    outputs::clear(work);
+    work.fill(0);
     kept
 }
 

@@ -224,17 +224,16 @@ pub(crate) fn neighbours(
     let b = layout::SLOT_WIDTH * (k as usize);
     let mine = color(table, k);
     let mut at = table[b + layout::FIRST_PIXEL];
-    let mut left = table[b + layout::PIXEL_COUNT];
+    let count = table[b + layout::PIXEL_COUNT];
     let mut found = Nearest {
         count: 0,
         target: 0,
         diff: 0,
     };
-    while 0 < left {
+    for _ in 0..count {
         let p = at - 1;
         found = look(labels, table, marks, w, h, visit, k, mine, p, found);
         at = links[p as usize];
-        left = left - 1;
     }
     found
 }

@@ -25,6 +25,7 @@ fn in_list(image: &[u8], labels: &[u32], o: RunnerConfig, k: u32, q: u32) -> boo
 }
 
 // Whether pixel p has its four neighbours in the list of cluster k.
+#[tactic(auto, unfolding(rules::specs::Grid::sides, rules::specs::Stage2::all_in))]
 fn surrounded(image: &[u8], labels: &[u32], o: RunnerConfig, w: u32, h: u32, k: u32, p: u32) -> bool
     requires { (p < w * h) × (w * h ≡ length labels.now) × (4 * length labels.now ≤ length image.now)
         × (w * h ≤ count_bound) × (0 < w) }
@@ -51,6 +52,7 @@ fn surrounded(image: &[u8], labels: &[u32], o: RunnerConfig, w: u32, h: u32, k: 
 }
 
 // Whether some pixel of the list of count pixels from first has its four neighbours in the list of cluster k.
+#[tactic(auto, unfolding(crate::specs::Code::Interior::some_inside), using(rules::proofs::Walks::walk_none, rules::proofs::Walks::step))]
 pub(crate) fn has_interior(
     image: &[u8],
     labels: &[u32],
@@ -70,14 +72,12 @@ pub(crate) fn has_interior(
         image.now labels.now w h k (walk (λ p. get_or links.now p 0) first count) }
 {
     let mut at = first;
-    let mut left = count;
-    while 0 < left {
+    for _ in 0..count {
         let p = at - 1;
         if surrounded(image, labels, o, w, h, k, p) {
             return true;
         }
         at = links[p as usize];
-        left = left - 1;
     }
     false
 }

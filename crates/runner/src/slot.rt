@@ -98,11 +98,7 @@ pub(crate) fn clear_slot(table: &mut [u32], k: u32)
     ensures { table.new ≡ cleared_slot table.old k }
 {
     let b = layout::SLOT_WIDTH * (k as usize);
-    let mut j = 0;
-    while j < layout::SLOT_WIDTH {
-        table[b + j] = 0;
-        j += 1;
-    }
+    table[b..b + layout::SLOT_WIDTH].fill(0);
 }
 
 // The first pixel, plus one, of two lists one after the other: of count pixels from first, and from second.
@@ -121,7 +117,7 @@ impl Head {
         Head {
             first: 0,
             count: 0,
-            rect: BoundingRect::empty(),
+            rect: BoundingRect::default(),
             sum: ColorSum::default(),
         }
     }

@@ -20,14 +20,13 @@ use crate::RunnerConfig;
 use color::ColorSum;
 
 // Each of n pixels from i on is linked to the one after it.
+#[tactic(auto, unfolding(crate::specs::Code::Spans::linked_from))]
 fn chain_links(links: &mut [u32], i: u32, n: u32)
     requires { (i + n ≤ length links.old) × (i + n < count_bound) }
     ensures { links.new ≡ linked_from links.old i n }
 {
-    let mut j = 0;
-    while j < n {
-        links[(i + j) as usize] = i + j + 2;
-        j += 1;
+    for j in i..i + n {
+        links[j as usize] = j + 2;
     }
 }
 
@@ -37,10 +36,8 @@ fn sum_colors(image: &[u8], i: u32, n: u32) -> ColorSum
     ensures { sum_of result ≡ sum_from image.now i n }
 {
     let mut s = ColorSum::default();
-    let mut j = 0;
-    while j < n {
-        s = s.plus(ColorSum::from(keying::color_at(image, i + j)));
-        j += 1;
+    for j in i..i + n {
+        s = s.plus(ColorSum::from(keying::color_at(image, j)));
     }
     s
 }
@@ -97,13 +94,7 @@ fn extends(input: Input, labels: &[u32], i: u32, k: u32) -> bool
 fn bound_of(t: i32) -> u8
     ensures { (n : ℕ) → t ≡ pos n → result ≤ n }
 {
-    if t < 0 {
-        return 0;
-    }
-    if 255 < t {
-        return 255;
-    }
-    t as u8
+    t.clamp(0, 255) as u8
 }
 
 // The same for each byte of four pixels; alpha may be anything.
@@ -118,7 +109,7 @@ pub(crate) fn limits_of(o: RunnerConfig) -> [u8; 16]
 fn far(x: u8, y: u8, limit: u8) -> u8
     ensures { (result ≤ 1) × (result ≡ 0 → apart x y ≤ limit) }
 {
-    if limit < color::distance(x, y) { 1 } else { 0 }
+    u8::from(limit < color::distance(x, y))
 }
 
 // How many bytes of the four pixels from a on, shifted, are further than their limit from those of the four from b on,
@@ -130,12 +121,10 @@ fn four_far(image: &[u8], a: u32, b: u32, shift: u32, limits: &[u8; 16]) -> u8
     let p = 4 * (a as usize);
     let q = 4 * (b as usize);
     let mut n: u8 = 0;
-    let mut j = 0;
-    while j < 16 {
+    for j in 0..16 {
         let x = image[p + j] >> shift;
         let d = limits[j];
-        n = n + far(x, image[q + j] >> shift, d) + far(x, image[q + j - 4] >> shift, d);
-        j += 1;
+        n += far(x, image[q + j] >> shift, d) + far(x, image[q + j - 4] >> shift, d);
     }
     n
 }
@@ -185,14 +174,13 @@ fn fours(input: Input, labels: &[u32], limits: &[u8; 16], i: u32, k: u32, room: 
     ensures { (result ≤ room) × (Fitting (config_of input.entry.o) input.entry.shift limits.now
         → AllExtend (config_of input.entry.o) input.entry.w input.entry.image.now labels.now k i result) }
 {
-    let mut n = 0;
-    while n + 4 <= room {
+    for four in 0..room / 4 {
+        let n = 4 * four;
         if !four_extend(input, labels, limits, i + n, k) {
             return n;
         }
-        n += 4;
     }
-    n
+    4 * (room / 4)
 }
 
 // How many pixels from a pixel on extend the cluster of the pixel to its left.
@@ -214,12 +202,10 @@ pub(crate) fn span_length(input: Input, labels: &[u32], limits: &[u8; 16], at: P
         return 0;
     }
     let room = input.w - at.x;
-    let mut n = 1 + fours(input, labels, limits, i + 1, k, room - 1);
-    while n < room {
+    for n in 1 + fours(input, labels, limits, i + 1, k, room - 1)..room {
         if !extends(input, labels, i + n, k) {
             return n;
         }
-        n += 1;
     }
-    n
+    room
 }

@@ -17,7 +17,7 @@ ghost use Rattle.runner.specs.Code.Stage2.{CanStage2, Staged};
 
 use super::builder::Builder;
 use super::cluster::Nearest;
-use super::{bound, cluster, geometry, keying, queue, slot};
+use super::{cluster, geometry, keying, queue, slot};
 use crate::{HIERARCHICAL_MAX, RunnerConfig};
 
 // What stage 2 carries from turn to turn: slots, outputs, turns made, and the largest pixel count.
@@ -34,11 +34,9 @@ fn prepare_stage_2(table: &mut [u32], queue: &mut [u32], n: u32) -> u32
     requires { (slot_width * n ≤ length table.old) × (n ≤ length queue.old) × (n ≤ count_bound) }
     ensures { Prepared n table.old queue.old table.new queue.new result }
 {
-    let mut k = 0;
     let mut largest = 0;
-    while k < n {
+    for k in 0..n {
         largest = prepare_slot(table, queue, k, largest);
-        k += 1;
     }
     largest
 }
@@ -52,7 +50,7 @@ fn prepare_slot(table: &mut [u32], queue: &mut [u32], k: u32, largest: u32) -> u
     let s = slot::load_head(table, k);
     slot::save_residue(table, k, s.sum);
     queue[k as usize] = key_of(s.count);
-    bound::max(largest, s.count)
+    largest.max(s.count)
 }
 
 // The key of a slot of so many pixels.
@@ -67,7 +65,7 @@ fn exceeds(d: u32, z: i32) -> bool
     requires { d < 2147483648 }
     ensures { result ≡ Rattle.rules.specs.Color.exceeds d z }
 {
-    !((d as i32) <= z)
+    z < d as i32
 }
 
 // Whether cluster k, of so many pixels from first, may stay a patch, after `patch_good` of runner.rs: a boundary
@@ -158,7 +156,7 @@ fn grown(table: &[u32], work: &mut [u32], room: usize, t: Turns, to: u32) -> Tur
         n: t.n,
         m: t.m,
         turns: t.turns,
-        largest: bound::max(t.largest, count),
+        largest: t.largest.max(count),
     }
 }
 
@@ -379,13 +377,10 @@ pub(crate) fn stage_2(
         turns: 0,
         largest,
     };
-    loop {
-        let e = queue::first(&work[0..3 * r], t.n as usize, r);
-        if e.key == queue::NONE {
-            return t;
-        }
+    while let Some(e) = queue::first(&work[0..3 * r], t.n as usize, r) {
         t = turn(
             image, labels, links, table, work, o, w, h, room, t, e.slot, e.key,
         );
     }
+    t
 }
