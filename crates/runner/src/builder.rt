@@ -3,7 +3,7 @@
 // `ends` holds for each slot the last pixel of its list, then for each slot the last of its hole children, each plus
 // one.
 ghost use Rattle.std.specs.Prelude.{◌≡◌, ◌+◌, ◌-◌, ◌*◌, ◌≤◌, ◌<◌, eqb, length, get_or, set, if◌then◌else◌};
-ghost use Rattle.rules.specs.Layout.{InTable};
+ghost use Rattle.rules.specs.Layout.{InTable, slot_width, pixel_count_place};
 ghost use Rattle.rules.specs.Code.Bounds.{count_bound};
 ghost use Rattle.color.specs.Colors.{color_of};
 ghost use Rattle.runner.specs.Code.Rep.{link_after};
@@ -65,6 +65,14 @@ pub(crate) struct Builder<'a> {
 }
 
 impl<'a> Builder<'a> {
+    // The pixel count of slot k.
+    pub(crate) fn count_of(&self, k: u32) -> u32
+        requires { InTable k self.now.table.now }
+        ensures { result ≡ get_or self.now.table.now (slot_width * k + pixel_count_place) 0 }
+    {
+        slot::count_of(self.table, k)
+    }
+
     // Pixel i, of colour c at column x and row y, is added to cluster k.
     pub(crate) fn add(&mut self, k: u32, i: u32, x: u32, y: u32, c: Color)
         requires { of_lists (CanAdd k i x y (color_of c)) self.old }
@@ -141,21 +149,19 @@ impl<'a> Builder<'a> {
         self.table[layout::SLOT_WIDTH * (f as usize) + layout::MERGED_INTO] = t;
         self.table[layout::SLOT_WIDTH * (t as usize) + layout::DEPTH] = depth + 1;
     }
+}
 
-    // f is appended to the hole children of t, of `room` slots.
-    pub(crate) fn append_hole(&mut self, room: u32, f: u32, t: u32)
-        requires { CanHollow room f t self.old.table.now self.old.ends.now }
-        ensures loans { SameLists self.old self.new }
-        ensures lists { (self.new.labels.now ≡ self.old.labels.now) × (self.new.links.now ≡ self.old.links.now) }
-        ensures hollowed { Hollowed room f t self.old.table.now self.old.ends.now
-            self.new.table.now self.new.ends.now }
-    {
-        let b = layout::SLOT_WIDTH * (t as usize);
-        let holes = self.table[b + layout::NUM_HOLES];
-        let e = (room + t) as usize;
-        let tail = self.ends[e];
-        self.ends[e] = f + 1;
-        self.table[b + layout::NUM_HOLES] = holes + 1;
-        link_hole(self.table, holes, tail, f, t);
-    }
+// f is appended to the hole children of t.
+pub(crate) fn append_hole(table: &mut [u32], ends: &mut [u32], room: u32, f: u32, t: u32)
+    requires { CanHollow room f t table.old ends.old }
+    ensures { Hollowed room f t table.old ends.old
+        table.new ends.new }
+{
+    let b = layout::SLOT_WIDTH * (t as usize);
+    let holes = table[b + layout::NUM_HOLES];
+    let e = (room + t) as usize;
+    let tail = ends[e];
+    ends[e] = f + 1;
+    table[b + layout::NUM_HOLES] = holes + 1;
+    link_hole(table, holes, tail, f, t);
 }

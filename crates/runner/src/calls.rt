@@ -1,5 +1,5 @@
 // An accepted run: stage 1, stage 2, and what is left at the end.
-ghost use Rattle.std.specs.Prelude.{◌≡◌, false, ◌+◌, ◌*◌, ◌≤◌, pos, length};
+ghost use Rattle.std.specs.Prelude.{◌≡◌, false, ◌+◌, ◌*◌, ◌≤◌, ℕ, pos, length};
 ghost use Rattle.rules.specs.Refusals.{bad_shift};
 ghost use Rattle.rules.specs.Run.{stage1, stage2};
 ghost use Rattle.rules.specs.Calls.{answered};
@@ -7,6 +7,7 @@ ghost use Rattle.rules.specs.Calls as rules;
 ghost use Rattle.rules.specs.Code.Bounds.{count_bound};
 ghost use Rattle.rules.specs.Code.Accepted.{Accepted};
 ghost use Rattle.runner.specs.Types.{config_of, buffers_of, SameLoans};
+ghost use Rattle.runner.specs.Code.Stage1.{Blank, Holding};
 ghost use Rattle.runner.specs.Code.Stage2.{CanStage2, Entered, Staged};
 ghost use Rattle.runner.specs.Code.Calls.{Blanked, CanRun, CanFinish, Finished};
 
@@ -36,6 +37,29 @@ fn blank(labels: &mut [u32], links: &mut [u32], work: &mut [u32], room: usize)
     work[5 * room..6 * room].fill(0);
 }
 
+// Stage 1, over lists that are lent one by one; answers the number of slots.
+fn stage_1(
+    labels: &mut [u32],
+    links: &mut [u32],
+    table: &mut [u32],
+    ends: &mut [u32],
+    input: Input,
+) -> u32
+    requires { Blank (input.w * input.h) labels.old links.old table.old ends.old }
+    ensures { let p = input.entry in (next : ℕ)
+        × Holding (p.w * p.h) (stage1 (config_of p.o) p.w p.h p.image.now) table.old
+        labels.new links.new table.new ends.new next result }
+{
+    let mut b = Builder {
+        labels,
+        links,
+        table,
+        ends,
+    };
+    let slots = stage1::stage_1(&mut b, input);
+    slots.count
+}
+
 // Stage 1 from blank buffers; answers the number of slots.
 fn label_image(
     image: &[u8],
@@ -62,13 +86,7 @@ fn label_image(
         w,
         h,
     };
-    let mut b = Builder {
-        labels,
-        links,
-        table,
-        ends: &mut work[3 * room..5 * room],
-    };
-    stage1::stage_1(&mut b, input).count
+    stage_1(labels, links, table, &mut work[3 * room..5 * room], input)
 }
 
 // Both stages.

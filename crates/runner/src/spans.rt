@@ -184,10 +184,10 @@ fn fours(input: Input, labels: &[u32], limits: &[u8; 16], i: u32, k: u32, room: 
 }
 
 // How many pixels from a pixel on extend the cluster of the pixel to its left.
-pub(crate) fn span_length(input: Input, labels: &[u32], limits: &[u8; 16], at: Pixel) -> u32
-    requires row_rest { RowRest input.w at.i at.x at.y input.image.now labels.now }
+pub(crate) fn span_length(input: Input, b: &Builder, limits: &[u8; 16], at: Pixel) -> u32
+    requires row_rest { RowRest input.w at.i at.x at.y input.image.now b.now.labels.now }
     requires limits_of { LimitsOf (config_of input.o) limits.now }
-    ensures { FoundSpan (config_of input.entry.o) input.entry.shift input.entry.w input.entry.image.now labels.now
+    ensures { FoundSpan (config_of input.entry.o) input.entry.shift input.entry.w input.entry.image.now b.now.labels.now
         at.i at.x at.y result }
 {
     if at.x == 0 {
@@ -197,6 +197,7 @@ pub(crate) fn span_length(input: Input, labels: &[u32], limits: &[u8; 16], at: P
         return 0;
     }
     let i = at.i;
+    let labels = &*b.labels;
     let k = labels[(i - 1) as usize];
     if !extends(input, labels, i, k) {
         return 0;

@@ -92,13 +92,17 @@ fn up_left_of(input: Input, at: Pixel) -> Option<Color>
     requires { Spot input.w input.h at.i at.x at.y }
     ensures { option_of result ≡ rules.color_at input.entry.image.now (grid.up_left input.entry.w at.i) }
 {
-    if at.x == 0 {
-        return None;
-    }
     if at.y == 0 {
         return None;
     }
-    color::pixel_at(input.image, input.w, input.h, at.x - 1, at.y - 1)
+    left_of(
+        input,
+        Pixel {
+            i: at.i - input.w,
+            x: at.x,
+            y: at.y - 1,
+        },
+    )
 }
 
 // What is seen from a pixel. It is on the image, so its own colour is never none.
@@ -133,7 +137,12 @@ fn left_meets_up(input: Input, l: u32, u: u32, p: Seen) -> bool
         return false;
     }
     let c = Some(p.own);
-    is_same(input, p.left, p.up) && is_same(input, c, p.left) && is_same(input, c, p.up)
+    if is_same(input, p.left, p.up) {
+        if is_same(input, c, p.left) {
+            return is_same(input, c, p.up);
+        }
+    }
+    false
 }
 
 // Steps 3 to 5: which cluster the pixel joins.
@@ -261,7 +270,7 @@ fn combine_sides(b: &mut Builder, l: u32, u: u32, s: Slots) -> Sides
         → of_lists (Sided o w h image shift i x y (rules.combine_then_place o w image i l u st) t₀)
         b.new result.left result.up result.slots.next_index result.slots.count }
 {
-    if slot::count_of(b.table, l) <= slot::count_of(b.table, u) {
+    if b.count_of(l) <= b.count_of(u) {
         b.combine_clusters(l, u);
         return Sides {
             left: u,
@@ -278,26 +287,26 @@ fn combine_sides(b: &mut Builder, l: u32, u: u32, s: Slots) -> Sides
 }
 
 // The label of the pixel above and of the one to the left, 0 off the image.
-fn up_label(labels: &[u32], w: u32, i: u32, y: u32) -> u32
-    requires { (0 < w) × (y ≡ i / w) × (i < length labels.now) }
-    ensures { (st : State) → labels.now ≡ st.labels → result ≡ rules.label_at st (grid.up w i) }
+fn up_label(b: &Builder, w: u32, at: Pixel) -> u32
+    requires { (0 < w) × (at.y ≡ at.i / w) × (at.i < length b.now.labels.now) }
+    ensures { (st : State) → b.now.labels.now ≡ st.labels → result ≡ rules.label_at st (grid.up w at.i) }
 {
-    if y == 0 {
+    if at.y == 0 {
         return 0;
     }
-    labels[(i - w) as usize]
+    b.labels[(at.i - w) as usize]
 }
 
-fn left_label(labels: &[u32], i: u32, x: u32) -> u32
-    requires i_in_bounds { i < length labels.now }
-    requires x_le_i { x ≤ i }
-    ensures { (st : State) (w : ℕ) → labels.now ≡ st.labels → x ≡ i % w → result
-        ≡ rules.label_at st (grid.left w i) }
+fn left_label(b: &Builder, at: Pixel) -> u32
+    requires i_in_bounds { at.i < length b.now.labels.now }
+    requires x_le_i { at.x ≤ at.i }
+    ensures { (st : State) (w : ℕ) → b.now.labels.now ≡ st.labels → at.x ≡ at.i % w → result
+        ≡ rules.label_at st (grid.left w at.i) }
 {
-    if x == 0 {
+    if at.x == 0 {
         return 0;
     }
-    labels[(i - 1) as usize]
+    b.labels[(at.i - 1) as usize]
 }
 
 // Step 1: the labels of left and up, whose clusters are combined where they meet.
@@ -312,8 +321,8 @@ fn meet(b: &mut Builder, input: Input, p: Seen, s: Slots, at: Pixel) -> Sides
         (rules.taken (config_of e.o) e.w e.image.now (e.w * e.h) (suc at.i)) t₀)
         b.new result.left result.up result.slots.next_index result.slots.count }
 {
-    let u = up_label(b.labels, input.w, at.i, at.y);
-    let l = left_label(b.labels, at.i, at.x);
+    let u = up_label(b, input.w, at);
+    let l = left_label(b, at);
     if left_meets_up(input, l, u, p) {
         return combine_sides(b, l, u, s);
     }
@@ -361,7 +370,7 @@ fn take_pixels(b: &mut Builder, input: Input, limits: &[u8; 16], s: Slots, at: P
         (rules.taken (config_of e.o) e.w e.image.now (e.w * e.h) (at.i + result.pixels)) t₀)
         b.new result.slots.next_index result.slots.count }
 {
-    let n = spans::span_length(input, b.labels, limits, at);
+    let n = spans::span_length(input, b, limits, at);
     if n == 0 {
         return Step {
             slots: take_pixel(b, input, s, at),

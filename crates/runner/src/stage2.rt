@@ -12,12 +12,13 @@ ghost use Rattle.runner.specs.Types.{config_of};
 ghost use Rattle.runner.specs.Code.Queue.{queue_key};
 ghost use Rattle.runner.specs.Code.Stage2.{Prepared, PreparedSlot, patch_good_at, deepens_at, CanPut, Put, goes_out};
 ghost use Rattle.runner.specs.Code.Stage2.{CanGrow};
+ghost use Rattle.runner.specs.Code.Ops.{CanMerge, Merged, CanDeepen, Deepened};
 ghost use Rattle.runner.specs.Code.Stage2.{Grown, Between, Chosen, Visiting, Aimed, Deepening, Visited, Entered};
 ghost use Rattle.runner.specs.Code.Stage2.{CanStage2, Staged};
 
 use super::builder::Builder;
 use super::cluster::Nearest;
-use super::{cluster, geometry, keying, queue, slot};
+use super::{builder, cluster, geometry, keying, queue, slot};
 use crate::{HIERARCHICAL_MAX, RunnerConfig};
 
 // What stage 2 carries from turn to turn: slots, outputs, turns made, and the largest pixel count.
@@ -160,6 +161,50 @@ fn grown(table: &[u32], work: &mut [u32], room: usize, t: Turns, to: u32) -> Tur
     }
 }
 
+// A plain merge of f into t, over lists that are lent one by one.
+fn merge_cluster_into(
+    labels: &mut [u32],
+    links: &mut [u32],
+    table: &mut [u32],
+    ends: &mut [u32],
+    f: u32,
+    t: u32,
+)
+    requires { CanMerge f t labels.old links.old table.old ends.old }
+    ensures { Merged f t labels.old links.old table.old ends.old
+        labels.new links.new table.new ends.new }
+{
+    let mut b = Builder {
+        labels,
+        links,
+        table,
+        ends,
+    };
+    b.merge_cluster_into(f, t);
+}
+
+// A deepening one.
+fn deepen_cluster_into(
+    labels: &mut [u32],
+    links: &mut [u32],
+    table: &mut [u32],
+    ends: &mut [u32],
+    f: u32,
+    t: u32,
+)
+    requires { CanDeepen f t labels.old links.old table.old ends.old }
+    ensures { Deepened f t labels.old links.old table.old ends.old
+        labels.new links.new table.new ends.new }
+{
+    let mut b = Builder {
+        labels,
+        links,
+        table,
+        ends,
+    };
+    b.deepen_cluster_into(f, t);
+}
+
 // A deepening merge of k into the nearest neighbour.
 fn deepen_into_nearest(
     labels: &mut [u32],
@@ -183,15 +228,10 @@ fn deepen_into_nearest(
     let r = room as usize;
     let to = near.target;
     let put = put_out(work, r, t, k);
-    let mut b = Builder {
-        labels,
-        links,
-        table,
-        ends: &mut work[3 * r..5 * r],
-    };
-    b.deepen_cluster_into(k, to);
+    deepen_cluster_into(labels, links, table, &mut work[3 * r..5 * r], k, to);
     if near.count <= o.hollow_neighbours {
-        b.append_hole(room, k, to);
+        builder::append_hole(table, &mut work[3 * r..5 * r], room, k, to);
+        return grown(table, work, r, put, to);
     }
     grown(table, work, r, put, to)
 }
@@ -231,13 +271,7 @@ fn merge_into_nearest(
         return deepen_into_nearest(labels, links, table, work, o, room, t, k, near);
     }
     let to = near.target;
-    let mut b = Builder {
-        labels,
-        links,
-        table,
-        ends: &mut work[3 * r..5 * r],
-    };
-    b.merge_cluster_into(k, to);
+    merge_cluster_into(labels, links, table, &mut work[3 * r..5 * r], k, to);
     grown(table, work, r, t, to)
 }
 
