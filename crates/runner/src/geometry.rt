@@ -52,7 +52,7 @@ fn surrounded(image: &[u8], labels: &[u32], o: RunnerConfig, w: u32, h: u32, k: 
 }
 
 // Whether some pixel of the list of count pixels from first has its four neighbours in the list of cluster k.
-#[tactic(auto, unfolding(crate::specs::Code::Interior::some_inside), using(rules::proofs::Walks::walk_none, rules::proofs::Walks::step))]
+#[tactic(auto, unfolding(crate::specs::Code::Interior::some_inside), using(rules::proofs::Walks::walk_none))]
 pub(crate) fn has_interior(
     image: &[u8],
     labels: &[u32],
