@@ -232,10 +232,7 @@ pub(crate) fn span_length(
     requires limits_of { LimitsOf (config_of o) limits.now }
     ensures { FoundSpan (config_of o) shift w image.now labels.now i x y result }
 {
-    if x == 0 {
-        return 0;
-    }
-    if y == 0 {
+    if x == 0 || y == 0 {
         return 0;
     }
     let k = labels[(i - 1) as usize];
