@@ -190,10 +190,7 @@ pub(crate) fn span_length(input: Input, b: &Builder, limits: &[u8; 16], at: Pixe
     ensures { FoundSpan (config_of input.entry.o) input.entry.shift input.entry.w input.entry.image.now b.now.labels.now
         at.i at.x at.y result }
 {
-    if at.x == 0 {
-        return 0;
-    }
-    if at.y == 0 {
+    if at.x == 0 || at.y == 0 {
         return 0;
     }
     let i = at.i;
