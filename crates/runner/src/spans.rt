@@ -240,7 +240,8 @@ pub(crate) fn span_length(
         return 0;
     }
     let room = w - x;
-    for n in 1 + fours(image, labels, o, shift, limits, w, i + 1, k, room - 1)..room {
+    let found = 1 + fours(image, labels, o, shift, limits, w, i + 1, k, room - 1);
+    for n in found..room {
         if !extends(image, labels, o, shift, w, i + n, k) {
             return n;
         }

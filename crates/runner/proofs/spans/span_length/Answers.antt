@@ -13,4 +13,4 @@ loop-n-init c = λ e.
     let a = c.args in
     let f = c.extends.ensures (c.if-not-extends.false) e in
     let m = same-bound (config_of a.o) a.image.now a.i (a.i - a.w) f.like-up in
-    then-more (Extends (config_of a.o) a.w a.image.now a.labels.now (get_or a.labels.now (a.i - 1) 0)) a.i 1 _ (λ j l. subst (Extends _ _ _ _ _) (let z : a.i ≡ a.i + j = omega arith in z) f) (c.fours-n.ensures.1 (record { shifted = e; bound = m.0; bounded = m.1; limited = c.requires.limits_of m.0 m.1 }))
+    then-more (Extends (config_of a.o) a.w a.image.now a.labels.now (get_or a.labels.now (a.i - 1) 0)) a.i 1 _ (λ j l. subst (Extends _ _ _ _ _) (let z : a.i ≡ a.i + j = omega arith in z) f) (c.fours-found.ensures.1 (record { shifted = e; bound = m.0; bounded = m.1; limited = c.requires.limits_of m.0 m.1 }))
