@@ -1,6 +1,6 @@
 // Whether the last entry's list is all pixels of the sheet: three stretches of it are walked at once, so that no link
 // waits for another's.
-ghost use Rattle.std.specs.Prelude.{◌≡◌, true, false, ℕ, ◌-◌, ◌*◌, ◌≤◌, ◌<◌, get_or};
+ghost use Rattle.std.specs.Prelude.{◌≡◌, true, false, ℕ, ◌-◌, ◌*◌, ◌≤◌, ◌<◌, length, get_or};
 ghost use Rattle.rules.specs.Paint.{slot_number};
 ghost use Rattle.container.specs.Code.Leads.{Leads};
 
@@ -29,16 +29,15 @@ impl Sheet<'_> {
         (v == 0) | (self.size < v) | (v == q) | (v == r)
     }
 
-    // One link on from each of several pixels.
-    fn followed<const N: usize>(self, at: [u32; N]) -> [u32; N]
-        requires { (i : ℕ) → i < N → (0 < get_or at i 0) × (get_or at i 0 ≤ self.size) }
-        ensures { (i : ℕ) → i < N → get_or result i 0 ≡ get_or self.entry.links.now (get_or at.entry i 0 - 1) 0 }
+    // Each of several places goes one link on.
+    pub(crate) fn follow<const N: usize>(self, at: &mut [u32; N])
+        requires { (i : ℕ) → i < N → (0 < get_or at.old i 0) × (get_or at.old i 0 ≤ self.size) }
+        ensures length { length at.new ≡ N }
+        ensures on { (i : ℕ) → i < N → get_or at.new i 0 ≡ get_or self.entry.links.now (get_or at.old i 0 - 1) 0 }
     {
-        let mut next = at;
-        for v in &mut next {
+        for v in at.iter_mut() {
             *v = self.links[(*v - 1) as usize];
         }
-        next
     }
 
     // Walks from several pixels, most links at most, until one of the walks stops.
@@ -52,7 +51,7 @@ impl Sheet<'_> {
             if at.iter().any(|v| self.walk_ends(*v, q, r)) {
                 return Walk { at, moved };
             }
-            at = self.followed(at);
+            self.follow(&mut at);
         }
         Walk { at, moved: most }
     }
@@ -67,7 +66,9 @@ impl Sheet<'_> {
         ensures q { let s = self.entry in Leads s.size s.links.now q (get_or result.moved 1 0) (get_or result.at 1 0) }
         ensures r { let s = self.entry in Leads s.size s.links.now r (get_or result.moved 2 0) (get_or result.at 2 0) }
     {
-        let [b, c] = self.followed([q, r]);
+        let mut on = [q, r];
+        self.follow(&mut on);
+        let [b, c] = on;
         let size = self.size;
         let t = self.walk(q, r, [first, b, c], size);
         let u = self.walk(q, r, [t.at[0], t.at[1]], size);
