@@ -3,7 +3,7 @@ use crate::api::{Clusters, Counts, Size};
 use std::alloc::{AllocError, Global};
 
 // What stands at each place of a buffer before a call.
-pub(crate) trait Pattern: PartialEq + Copy + Drop {
+pub(crate) trait Pattern: PartialEq + Copy {
     fn at(place: usize) -> Self;
 }
 
@@ -34,8 +34,8 @@ pub(crate) fn filled<T: Pattern>(alloc: Global, length: usize) -> Result<Vec<T>,
 pub(crate) fn are_filled<T: Pattern>(items: &[T], from: usize) -> bool {
     items
         .iter()
-        .enumerate()
-        .all(|(i, item)| *item == T::at(from.wrapping_add(i)))
+        .zip(from..)
+        .all(|(item, place)| *item == T::at(place))
 }
 
 // How many numbers each buffer of a sheet has.

@@ -7,7 +7,7 @@ use crate::buffers::{Buffers, Lengths, are_filled, filled};
 use crate::reading::{Numbers, Reader};
 use crate::sheets::{SLOT, is_picture, is_sheet};
 use crate::tally::Tally;
-use crate::trials::Trial;
+use crate::trials::{Call, Trial};
 use runner::RunnerConfig;
 use std::alloc::{AllocError, Global};
 use std::fmt;
@@ -36,10 +36,9 @@ struct Case<'a> {
 // Whether a buffer begins with these numbers, and was left alone after them.
 fn holds(buffer: &[u32], numbers: Numbers<'_>) -> bool {
     let n = numbers.len();
-    match buffer.get(n..) {
-        None => false,
-        Some(rest) => are_filled(rest, n) & numbers.eq(buffer.iter().copied().take(n)),
-    }
+    buffer.split_at_checked(n).is_some_and(|(written, rest)| {
+        numbers.eq(written.iter().copied()) & are_filled(rest, n)
+    })
 }
 
 impl<'a> Case<'a> {
@@ -71,13 +70,13 @@ impl<'a> Case<'a> {
     }
 
     // The call of the case.
-    fn trial(&self, paints: bool) -> Trial<'a> {
+    fn trial(&self, call: Call) -> Trial<'a> {
         let area = self.labels.len();
         Trial {
+            call,
             config: self.config,
             size: self.size,
             image: self.image,
-            paints,
             lengths: Lengths {
                 labels: area + MARGIN,
                 links: area + MARGIN,
@@ -123,12 +122,11 @@ impl<'a> Case<'a> {
     }
 
     // Whether a call of the case leaves what is recorded, and whether that can be painted and stored.
-    fn is_replayed(&self, alloc: Global, paints: bool) -> Result<bool, AllocError> {
-        let left = self.trial(paints).make(alloc)?;
-        let is_shown = if paints {
-            self.is_shown(&left.picture)
-        } else {
-            are_filled(&left.picture, 0)
+    fn is_replayed(&self, alloc: Global, call: Call) -> Result<bool, AllocError> {
+        let left = self.trial(call).make(alloc)?;
+        let is_shown = match call {
+            Call::Run => are_filled(&left.picture, 0),
+            Call::RunAndPaint => self.is_shown(&left.picture),
         };
         Ok(
             (left.answer == Ok(self.counts))
@@ -152,6 +150,7 @@ pub(crate) struct Replayed {
 }
 
 impl fmt::Display for Replayed {
+    // The counts in words.
     fn fmt<W: fmt::Write>(&self, f: &mut fmt::Formatter<W>) -> fmt::Result {
         let Replayed {
             cases,
@@ -181,12 +180,14 @@ pub(crate) fn replay(alloc: Global, input: &[u8]) -> Result<Replayed, AllocError
                 left: 0,
             });
         };
-        tally.count(case.is_replayed(alloc, false)? & case.is_replayed(alloc, true)?);
+        tally.count(
+            case.is_replayed(alloc, Call::Run)? & case.is_replayed(alloc, Call::RunAndPaint)?,
+        );
     }
     Ok(Replayed {
         cases,
         skipped: 0,
         differ: tally.wrong,
-        left: reader.len(),
+        left: reader.left_over(),
     })
 }

@@ -301,8 +301,8 @@ impl Edge {
         Ok(buffers)
     }
 
-    // Paints, and answers whether that went right.
-    fn try_paint(self, alloc: Global) -> Result<bool, AllocError> {
+    // Paints, and tells whether that went right.
+    fn is_painted_right(self, alloc: Global) -> Result<bool, AllocError> {
         let buffers = self.buffers(alloc)?;
         let mut picture = filled(alloc, self.bytes)?;
         let answer = crate::api::to_color_image(
@@ -316,8 +316,8 @@ impl Edge {
         Ok(is_right & (answer == self.expected))
     }
 
-    // Stores, and answers whether that went right.
-    fn try_store(self, alloc: Global) -> Result<bool, AllocError> {
+    // Stores, and tells whether that went right.
+    fn is_stored_right(self, alloc: Global) -> Result<bool, AllocError> {
         let buffers = self.buffers(alloc)?;
         let mut sheet = filled(alloc, self.bytes)?;
         let clusters = buffers.clusters(self.size, self.counts);
@@ -373,8 +373,8 @@ fn rows() -> [RowEdge; 16] {
 }
 
 impl RowEdge {
-    // Asks for the row, and answers whether it went right: its bytes are filled ones, from the right place on.
-    fn try_row(self, alloc: Global) -> Result<bool, AllocError> {
+    // Asks for the row, and tells whether it went right: its bytes are filled ones, from the right place on.
+    fn is_right(self, alloc: Global) -> Result<bool, AllocError> {
         let picture: Vec<u8> = filled(alloc, self.bytes)?;
         let row = crate::api::row(self.size, &picture, self.y);
         let answer = crate::api::row_check(self.size, &picture, self.y);
@@ -391,13 +391,13 @@ impl RowEdge {
 pub(crate) fn all(alloc: Global) -> Result<Tally, AllocError> {
     let mut tally = Tally::default();
     for edge in paints().into_iter().chain(entries()) {
-        tally.count(edge.try_paint(alloc)?);
+        tally.count(edge.is_painted_right(alloc)?);
     }
     for edge in stores() {
-        tally.count(edge.try_store(alloc)?);
+        tally.count(edge.is_stored_right(alloc)?);
     }
     for edge in rows() {
-        tally.count(edge.try_row(alloc)?);
+        tally.count(edge.is_right(alloc)?);
     }
     Ok(tally)
 }

@@ -19,7 +19,7 @@ impl<'a> Reader<'a> {
     }
 
     // How many bytes are left.
-    pub fn len(&self) -> usize {
+    pub fn left_over(&self) -> usize {
         self.rest.len()
     }
 
@@ -27,22 +27,16 @@ impl<'a> Reader<'a> {
     pub fn bytes(&mut self, n: usize) -> Option<&'a [u8]>
         ensures { IfSome result (λ bytes. length bytes.now ≡ n) }
     {
-        if self.rest.len() < n {
-            return None;
-        }
-        let (bytes, rest) = self.rest.split_at(n);
-        self.rest = rest;
-        Some(bytes)
+        self.rest.split_off(..n)
     }
 
     // An unsigned LEB128 number: seven bits a byte, the lowest first, five bytes at most.
     pub fn number(&mut self) -> Option<u32> {
         let mut value = 0;
         for shift in [0, 7, 14, 21, 28] {
-            let (byte, rest) = self.rest.split_first()?;
-            self.rest = rest;
-            value |= u32::from(*byte % 128) << shift;
-            if *byte < 128 {
+            let byte = *self.rest.split_off_first()?;
+            value |= u32::from(byte % 128) << shift;
+            if byte < 128 {
                 return Some(value);
             }
         }
@@ -133,6 +127,7 @@ impl Iterator for Numbers<'_> {
 
     ghost remaining = { λ s. at_most s.count };
 
+    // The next number.
     fn next(&mut self) -> Option<u32> {
         if self.count == 0 {
             return None;

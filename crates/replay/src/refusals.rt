@@ -2,7 +2,7 @@
 use crate::api::Size;
 use crate::buffers::{Lengths, are_filled, filled};
 use crate::tally::Tally;
-use crate::trials::{Outcome, Trial};
+use crate::trials::{Call, Trial};
 use color::Color;
 use refusal::Refusal;
 use runner::{KeyingAction, RunnerConfig};
@@ -154,39 +154,40 @@ fn settings(shift: i32) -> RunnerConfig {
     }
 }
 
-// Whether a call answered what it has to and, where that is a refusal, every buffer is as it was filled. The picture is
-// so too, unless it was painted.
-fn is_right(left: &Outcome, paints: bool, expected: Result<(), Refusal>) -> bool {
-    match expected {
-        Ok(()) => left.answer.is_ok() & (paints | are_filled(&left.picture, 0)),
-        Err(refusal) => (left.answer == Err(refusal)) & left.is_untouched(),
-    }
-}
-
 // How long the picture of 3 × 2 pixels is.
 const PICTURE: usize = 24;
 
 impl Edge {
-    // Makes the call, with a picture of so many bytes, and answers whether it went right. A picture of another length
-    // than 3 × 2 pixels ask for is refused where nothing comes before that. The image may have any bytes.
-    fn try_call(self, alloc: Global, paints: bool, picture: usize) -> Result<bool, AllocError> {
-        let expected = if paints & (picture != PICTURE) {
-            self.expected.and(Err(Refusal::PictureLength))
-        } else {
-            self.expected
-        };
+    // What the call has to answer with a picture of so many bytes: one of another length than 3 × 2 pixels ask for is
+    // refused where nothing comes before that.
+    fn answer(self, call: Call, picture: usize) -> Result<(), Refusal> {
+        self.expected?;
+        match call {
+            Call::RunAndPaint if picture != PICTURE => Err(Refusal::PictureLength),
+            _ => Ok(()),
+        }
+    }
+
+    // Makes the call on an image of any bytes, and tells whether it answered what it has to and, where that is a
+    // refusal, left every buffer as it was filled. The picture is so too, unless it was painted.
+    fn is_right(self, alloc: Global, call: Call, picture: usize) -> Result<bool, AllocError> {
         let image = filled(alloc, self.image)?;
         let trial = Trial {
+            call,
             config: settings(self.shift),
             size: self.size,
             image: &image,
-            paints,
             lengths: self.lengths,
             work: self.work,
             picture,
         };
         let left = trial.make(alloc)?;
-        Ok(is_right(&left, paints, expected))
+        Ok(match self.answer(call, picture) {
+            Err(refusal) => (left.answer == Err(refusal)) & left.is_untouched(),
+            Ok(()) => {
+                left.answer.is_ok() & ((call == Call::RunAndPaint) | are_filled(&left.picture, 0))
+            }
+        })
     }
 }
 
@@ -194,10 +195,10 @@ impl Edge {
 pub(crate) fn all(alloc: Global) -> Result<Tally, AllocError> {
     let mut tally = Tally::default();
     for edge in edges().into_iter().chain(faults()) {
-        tally.count(edge.try_call(alloc, false, 22)?);
-        tally.count(edge.try_call(alloc, true, 23)?);
-        tally.count(edge.try_call(alloc, true, 24)?);
-        tally.count(edge.try_call(alloc, true, 25)?);
+        tally.count(edge.is_right(alloc, Call::Run, 22)?);
+        tally.count(edge.is_right(alloc, Call::RunAndPaint, 23)?);
+        tally.count(edge.is_right(alloc, Call::RunAndPaint, 24)?);
+        tally.count(edge.is_right(alloc, Call::RunAndPaint, 25)?);
     }
     Ok(tally)
 }

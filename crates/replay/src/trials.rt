@@ -5,13 +5,20 @@ use refusal::Refusal;
 use runner::RunnerConfig;
 use std::alloc::{AllocError, Global};
 
-// A call: what it is given, whether it paints, and the lengths of the buffers that it is lent.
+// Which call is made, so that both are tried in the same way.
+#[derive(Clone, Copy, PartialEq, Eq)]
+pub(crate) enum Call {
+    Run,
+    RunAndPaint,
+}
+
+// A call: which, what it is given, and the lengths of the buffers that it is lent.
 #[derive(Clone, Copy)]
 pub(crate) struct Trial<'a> {
+    pub call: Call,
     pub config: RunnerConfig,
     pub size: Size,
     pub image: &'a [u8],
-    pub paints: bool,
     pub lengths: Lengths,
     pub work: usize,
     pub picture: usize,
@@ -27,15 +34,14 @@ pub(crate) struct Outcome {
 }
 
 impl Trial<'_> {
-    // Makes the call. One that does not paint is not lent the picture.
+    // Makes the call. `run` is not lent the picture, which lies beside the buffers all the same.
     pub fn make(self, alloc: Global) -> Result<Outcome, AllocError> {
         let mut buffers = Buffers::filled(alloc, self.lengths)?;
         let mut work = filled(alloc, self.work)?;
         let mut picture = filled(alloc, self.picture)?;
-        let answer = if self.paints {
-            self.run_and_paint(&mut buffers, &mut work, &mut picture)
-        } else {
-            self.run(&mut buffers, &mut work)
+        let answer = match self.call {
+            Call::Run => self.run(&mut buffers, &mut work),
+            Call::RunAndPaint => self.run_and_paint(&mut buffers, &mut work, &mut picture),
         };
         Ok(Outcome {
             answer,
