@@ -1,5 +1,5 @@
 // The buffers that a call is lent, and what they hold before it.
-use crate::api::{Clusters, Counts, Size};
+use image::{Clusters, Counts, Size};
 use std::alloc::{AllocError, Global};
 
 // What stands at each place of a buffer before a call.
@@ -49,17 +49,17 @@ pub(crate) struct Lengths {
 
 // The buffers of a sheet.
 #[derive(Drop)]
-pub(crate) struct Buffers {
+pub(crate) struct OwnedBuffers {
     pub labels: Vec<u32>,
     pub links: Vec<u32>,
     pub table: Vec<u32>,
     pub outputs: Vec<u32>,
 }
 
-impl Buffers {
+impl OwnedBuffers {
     // Buffers of these lengths with the pattern in them.
     pub fn filled(alloc: Global, lengths: Lengths) -> Result<Self, AllocError> {
-        Ok(Buffers {
+        Ok(OwnedBuffers {
             labels: filled(alloc, lengths.labels)?,
             links: filled(alloc, lengths.links)?,
             table: filled(alloc, lengths.table)?,

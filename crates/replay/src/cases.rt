@@ -2,12 +2,12 @@
 ghost use Rattle.std.specs.Prelude.{◌≤◌};
 ghost use Rattle.replay.specs.declared.cases.TheConstants.{LARGEST};
 
-use crate::api::{Counts, Size};
-use crate::buffers::{Buffers, Lengths, are_filled, filled};
+use crate::buffers::{Lengths, OwnedBuffers, are_filled, filled};
 use crate::reading::{Numbers, Reader};
 use crate::sheets::{SLOT, is_picture, is_sheet};
 use crate::tally::Tally;
 use crate::trials::{Call, Trial};
+use image::{Counts, Size};
 use runner::RunnerConfig;
 use std::alloc::{AllocError, Global};
 use std::fmt;
@@ -89,7 +89,7 @@ impl<'a> Case<'a> {
     }
 
     // Whether the buffers hold the sheet that is recorded.
-    fn is_run(&self, buffers: &Buffers) -> bool {
+    fn is_run(&self, buffers: &OwnedBuffers) -> bool {
         holds(&buffers.labels, self.labels)
             & holds(&buffers.links, self.links)
             & holds(&buffers.table, self.table)
@@ -102,22 +102,22 @@ impl<'a> Case<'a> {
     }
 
     // Whether painting from the buffers of a run gives the picture that is recorded.
-    fn is_painted(&self, alloc: Global, buffers: &Buffers) -> Result<bool, AllocError> {
+    fn is_painted(&self, alloc: Global, buffers: &OwnedBuffers) -> Result<bool, AllocError> {
         let mut picture = filled(alloc, self.picture.len())?;
         let clusters = buffers.clusters(self.size, self.counts);
-        let answer = crate::api::to_color_image(clusters, &mut picture);
+        let answer = container::to_color_image(clusters, &mut picture);
         Ok(answer.is_ok() & self.is_shown(&picture))
     }
 
     // Whether storing from the buffers of a run gives their numbers.
-    fn is_kept(&self, alloc: Global, buffers: &Buffers) -> Result<bool, AllocError> {
+    fn is_kept(&self, alloc: Global, buffers: &OwnedBuffers) -> Result<bool, AllocError> {
         let numbers = 4
             + 2 * self.labels.len()
             + 2 * self.counts.n as usize
             + self.counts.m as usize;
         let mut sheet = filled(alloc, 2 * numbers)?;
         let clusters = buffers.clusters(self.size, self.counts);
-        let answer = crate::api::store(clusters, &buffers.labels, &mut sheet);
+        let answer = sheet::store(clusters, &buffers.labels, &mut sheet);
         Ok(answer.is_ok() & is_sheet(&sheet, clusters, &buffers.labels))
     }
 

@@ -1,9 +1,9 @@
 // Painting, rows and storing at the edges of their refusals, from buffers that no run made: the answer, and that a
 // refused call changes nothing.
-use crate::api::{Counts, Size};
-use crate::buffers::{Buffers, Lengths, are_filled, filled};
+use crate::buffers::{Lengths, OwnedBuffers, are_filled, filled};
 use crate::sheets::is_sheet;
 use crate::tally::Tally;
+use image::{Counts, Size};
 use refusal::Refusal;
 use std::alloc::{AllocError, Global};
 
@@ -262,7 +262,7 @@ fn put(numbers: &mut [u32], at: usize, value: u32) {
 }
 
 // Makes a change.
-fn set(buffers: &mut Buffers, change: Change) {
+fn set(buffers: &mut OwnedBuffers, change: Change) {
     let Change { buffer, at, value } = change;
     match buffer {
         Buffer::Labels => put(&mut buffers.labels, at, value),
@@ -288,8 +288,8 @@ fn shows(picture: &[u8], painted: usize) -> bool {
 
 impl Edge {
     // The sheet that the call is lent.
-    fn buffers(self, alloc: Global) -> Result<Buffers, AllocError> {
-        let mut buffers = Buffers {
+    fn buffers(self, alloc: Global) -> Result<OwnedBuffers, AllocError> {
+        let mut buffers = OwnedBuffers {
             labels: vec![in alloc; 1; self.lengths.labels]?,
             links: (0..self.lengths.links).map(link_at).collect(alloc)?,
             table: (0..self.lengths.table).map(slot_at).collect(alloc)?,
@@ -305,7 +305,7 @@ impl Edge {
     fn is_painted_right(self, alloc: Global) -> Result<bool, AllocError> {
         let buffers = self.buffers(alloc)?;
         let mut picture = filled(alloc, self.bytes)?;
-        let answer = crate::api::to_color_image(
+        let answer = container::to_color_image(
             buffers.clusters(self.size, self.counts),
             &mut picture,
         );
@@ -321,7 +321,7 @@ impl Edge {
         let buffers = self.buffers(alloc)?;
         let mut sheet = filled(alloc, self.bytes)?;
         let clusters = buffers.clusters(self.size, self.counts);
-        let answer = crate::api::store(clusters, &buffers.labels, &mut sheet);
+        let answer = sheet::store(clusters, &buffers.labels, &mut sheet);
         let is_right = match answer {
             Ok(()) => is_sheet(&sheet, clusters, &buffers.labels),
             Err(_) => are_filled(&sheet, 0),
@@ -376,8 +376,8 @@ impl RowEdge {
     // Asks for the row, and tells whether it went right: its bytes are filled ones, from the right place on.
     fn is_right(self, alloc: Global) -> Result<bool, AllocError> {
         let picture: Vec<u8> = filled(alloc, self.bytes)?;
-        let row = crate::api::row(self.size, &picture, self.y);
-        let answer = crate::api::row_check(self.size, &picture, self.y);
+        let row = sheet::row(self.size, &picture, self.y);
+        let answer = sheet::row_check(self.size, &picture, self.y);
         Ok(match self.expected {
             Ok(from) => answer.is_ok()
                 & (row.len() == 4 * self.size.w as usize)

@@ -2,7 +2,6 @@
 // call. Prints how many calls were made and how many went wrong.
 #![tactic(auto)]
 
-mod api;
 mod buffers;
 mod cases;
 mod edges;

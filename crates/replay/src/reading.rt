@@ -2,8 +2,8 @@
 ghost use Rattle.std.specs.Prelude.{◌≡◌, length, IfSome};
 ghost use Rattle.std.specs.Iterator.{at_most};
 
-use crate::api::Size;
 use color::Color;
+use image::Size;
 use runner::{KeyingAction, RunnerConfig};
 
 // What is left to be read. Where something is not whole, the answer is `None`.

@@ -1,9 +1,9 @@
 // The refusals of `run` and `run_and_paint` at their edges: the answer, and that a refused call changes nothing.
-use crate::api::Size;
 use crate::buffers::{Lengths, are_filled, filled};
 use crate::tally::Tally;
 use crate::trials::{Call, Trial};
 use color::Color;
+use image::Size;
 use refusal::Refusal;
 use runner::{KeyingAction, RunnerConfig};
 use std::alloc::{AllocError, Global};

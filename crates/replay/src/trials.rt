@@ -1,8 +1,8 @@
 // A call of `run` or of `run_and_paint` in buffers that hold the pattern.
-use crate::api::{Counts, Size};
-use crate::buffers::{Buffers, Lengths, are_filled, filled};
+use crate::buffers::{Lengths, OwnedBuffers, are_filled, filled};
+use image::{Counts, Size};
 use refusal::Refusal;
-use runner::RunnerConfig;
+use runner::{Buffers, RunnerConfig};
 use std::alloc::{AllocError, Global};
 
 // Which call is made, so that both are tried in the same way.
@@ -28,7 +28,7 @@ pub(crate) struct Trial<'a> {
 #[derive(Drop)]
 pub(crate) struct Outcome {
     pub answer: Result<Counts, Refusal>,
-    pub buffers: Buffers,
+    pub buffers: OwnedBuffers,
     pub work: Vec<u32>,
     pub picture: Vec<u8>,
 }
@@ -36,12 +36,25 @@ pub(crate) struct Outcome {
 impl Trial<'_> {
     // Makes the call. `run` is not lent the picture, which lies beside the buffers all the same.
     pub fn make(self, alloc: Global) -> Result<Outcome, AllocError> {
-        let mut buffers = Buffers::filled(alloc, self.lengths)?;
+        let mut buffers = OwnedBuffers::filled(alloc, self.lengths)?;
         let mut work = filled(alloc, self.work)?;
         let mut picture = filled(alloc, self.picture)?;
+        let mut lent = Buffers {
+            labels: &mut buffers.labels,
+            links: &mut buffers.links,
+            table: &mut buffers.table,
+            outputs: &mut buffers.outputs,
+            work: &mut work,
+        };
         let answer = match self.call {
-            Call::Run => self.run(&mut buffers, &mut work),
-            Call::RunAndPaint => self.run_and_paint(&mut buffers, &mut work, &mut picture),
+            Call::Run => runner::run(self.config, self.size, self.image, &mut lent),
+            Call::RunAndPaint => color_clusters::run_and_paint(
+                self.config,
+                self.size,
+                self.image,
+                &mut lent,
+                &mut picture,
+            ),
         };
         Ok(Outcome {
             answer,
@@ -49,40 +62,6 @@ impl Trial<'_> {
             work,
             picture,
         })
-    }
-
-    // Runs.
-    fn run(self, buffers: &mut Buffers, work: &mut [u32]) -> Result<Counts, Refusal> {
-        crate::api::run(
-            self.config,
-            self.size,
-            self.image,
-            &mut buffers.labels,
-            &mut buffers.links,
-            &mut buffers.table,
-            &mut buffers.outputs,
-            work,
-        )
-    }
-
-    // Runs and paints.
-    fn run_and_paint(
-        self,
-        buffers: &mut Buffers,
-        work: &mut [u32],
-        picture: &mut [u8],
-    ) -> Result<Counts, Refusal> {
-        crate::api::run_and_paint(
-            self.config,
-            self.size,
-            self.image,
-            &mut buffers.labels,
-            &mut buffers.links,
-            &mut buffers.table,
-            &mut buffers.outputs,
-            work,
-            picture,
-        )
     }
 }
 
