@@ -4,13 +4,14 @@ use native.Mathlib.Nat.{lt_of_lt_of_le, pow-le-pow_right, div-eq_of_lt}
 use native.Mathlib.Omega.{arith}
 use mathlib.Core.Path.{◌≡◌, refl}
 use mathlib.Core.Bool.{Bool, true, false, ◌&&◌}
+use Rattle.std.specs.Prelude.{if◌then◌else◌}
 use lib.IntN.{ℤ, pos, negsuc}
 use lib.Signed.{le_z}
 use mir.Syntax.{w8, w32}
 use mir.Val.{Fits, SFits, to_z, of_z}
 use mir.ValLaws.{to_z_pos, to_z-of_z}
 use lib.Dec.{eqb}
-use borrow.Author.Tests.{ltb-false, eqb-true}
+use borrow.Author.Tests.{ltb-false, eqb-true, le-ltb}
 use Rattle.rules.specs.Base.{apart}
 use Rattle.rules.specs.Color.{Color, ColorSum, ◌⊕◌, at_most, equal_color, shift_of, color_same}
 use Rattle.rules.specs.Refusals.{largest_total, sum_answer}
@@ -64,7 +65,33 @@ totals-fit x y h =
     let r = neither _ _ g.0 in
     (ltb-false _ _ r.0, ltb-false _ _ r.1, ltb-false _ _ g.1, ltb-false _ _ b.1, ltb-false _ _ a.1)
 
+-- totals that fit are not refused
+pub not-refused : (x y : ColorSum) → x.r + y.r ≤ largest_total → x.g + y.g ≤ largest_total → x.b + y.b ≤ largest_total → x.a + y.a ≤ largest_total
+    → x.count + y.count ≤ largest_total → sum_answer x y ≡ 0
+unfolding sum_answer ◌⊕◌
+not-refused x y r g b a n = rw (le-ltb _ _ r, le-ltb _ _ g, le-ltb _ _ b, le-ltb _ _ a, le-ltb _ _ n)
+
+-- an addition that is not answered with 0 is answered with 7
+pub refused : (x y : ColorSum) → ¬ (sum_answer x y ≡ 0) → sum_answer x y ≡ 7
+unfolding sum_answer
+refused x y = by _
+  where
+    by : (b : Bool) → ¬ (◌≡◌ {A = ℕ} (if b then 7 else 0) 0) → ◌≡◌ {A = ℕ} (if b then 7 else 0) 7
+    by true h = refl
+    by false h = absurd (h refl)
+
 -- and its sum
 pub sum-taken : (x y : ColorSum) → sum_answer x y ≡ 0 → sum_call x y ≡ x ⊕ y
 unfolding sum_call
 sum-taken x y e = rw (e) refl
+
+-- a refused one leaves the sum
+pub sum-kept : (x y : ColorSum) → sum_answer x y ≡ 7 → sum_call x y ≡ x
+unfolding sum_call
+sum-kept x y e = rw (e) refl
+
+-- its five totals
+pub five-totals : (x y : ColorSum) {r g b a n : ℕ} → r ≡ x.r + y.r → g ≡ x.g + y.g → b ≡ x.b + y.b → a ≡ x.a + y.a → n ≡ x.count + y.count
+    → sum_answer x y ≡ 0 → record { r = r; g = g; b = b; a = a; count = n } ≡ sum_call x y
+unfolding ◌⊕◌
+five-totals x y r g b a n e = rw (sum-taken x y e, r, g, b, a, n) refl

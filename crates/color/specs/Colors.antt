@@ -1,10 +1,8 @@
 -- The declared types, read as the rules' colours.
-use Rattle.std.proofs.Math.Option.{Option, none, some}
-use Rattle.std.specs.Prelude.{List, ℕ, ◌+◌, get_or}
+use Rattle.std.proofs.Math.Option as math
+use Rattle.std.specs.Prelude.{List, ℕ, ◌+◌, get_or, Option, Some, None}
 use Rattle.color.specs.declared.Color.{Color}
 use Rattle.color.specs.declared.ColorSum.{ColorSum}
-use Rattle.color.specs.declared.ColorOrNone.{ColorOrNone}
-use Rattle.color.specs.declared.ColorOrNone.TheVariants.{Some, None}
 use Rattle.rules.specs.Color as rules
 
 -- a colour's four channels
@@ -26,6 +24,6 @@ five_at table at = record {
 }
 
 -- a colour or none: `Some c` is c, and `None` is none
-abbrev pub option_of : ColorOrNone → Option rules.Color
-option_of (Some c) = some (color_of c)
-option_of None = none
+abbrev pub option_of : Option Color → math.Option rules.Color
+option_of (Some c) = math.some (color_of c)
+option_of None = math.none

@@ -1,1 +1,2 @@
 pub mod Colors
+pub mod Equal

@@ -3,21 +3,52 @@ ghost use Rattle.std.specs.Prelude.{◌≡◌, length};
 ghost use Rattle.rules.specs.Refusals.{row_answer};
 ghost use Rattle.rules.specs.Calls.{as_buffers, answered, with_picture, run_call, paint_call, run_and_paint_call};
 ghost use Rattle.rules.specs.Calls.{store_call};
+ghost use Rattle.rules.specs.Calls as rules;
 ghost use Rattle.rules.specs.Demand3.{Demand3Left};
-ghost use Rattle.runner.specs.Types.{action_of, config_of};
+ghost use Rattle.runner.specs.Types.{action_of, config_of, ran_of};
 ghost use Rattle.color_clusters.specs.Exports.{action_at, settings};
 
 use color::Color;
-use runner::{Answer, KeyingAction, RunnerConfig};
+use image::{Clusters, Counts, Size};
+use refusal::Refusal;
+use runner::{Buffers, KeyingAction, RunnerConfig};
+
+// The number of the first check that failed, or 0; the numbers of slots and of outputs, 0 where the call is refused.
+#[repr(C)]
+#[derive(Clone, Copy)]
+pub struct Answer {
+    pub number: u32,
+    pub n: u32,
+    pub m: u32,
+}
+
+impl From<Result<Counts, Refusal>> for Answer {
+    ghost from_gives = { λ ran a. (b : rules.Buffers) → answered a.number a.n a.m b ≡ ran_of ran b };
+
+    fn from(ran: Result<Counts, Refusal>) -> Answer {
+        match ran {
+            Ok(counts) => Answer {
+                number: 0,
+                n: counts.n,
+                m: counts.m,
+            },
+            Err(refusal) => Answer {
+                number: refusal.number(),
+                n: 0,
+                m: 0,
+            },
+        }
+    }
+}
 
 // 0 keeps pixels of the key colour, any other number discards them.
 fn action_of(action: u32) -> KeyingAction
     ensures { action_of result ≡ action_at action }
 {
-    if action == 0 {
-        return KeyingAction::Keep;
+    match action {
+        0 => KeyingAction::Keep,
+        _ => KeyingAction::Discard,
     }
-    KeyingAction::Discard
 }
 
 // The settings, put together.
@@ -56,6 +87,30 @@ fn config(
         deepen_diff,
         key_color,
         keying_action,
+    }
+}
+
+// What a run left, put together.
+fn clusters<'a>(
+    w: u32,
+    h: u32,
+    links: &'a [u32],
+    table: &'a [u32],
+    outputs: &'a [u32],
+    n: u32,
+    m: u32,
+) -> Clusters<'a>
+    ensures size { (result.size.w ≡ w) × (result.size.h ≡ h) }
+    ensures counts { (result.counts.n ≡ n) × (result.counts.m ≡ m) }
+    ensures buffers { (result.links.now ≡ links.now) × (result.table.now ≡ table.now)
+        × (result.outputs.now ≡ outputs.now) }
+{
+    Clusters {
+        size: Size { w, h },
+        counts: Counts { n, m },
+        links,
+        table,
+        outputs,
     }
 }
 
@@ -104,7 +159,14 @@ pub fn color_clusters_run(
         key_a,
         action,
     );
-    runner::run(o, w, h, image, labels, links, table, outputs, work)
+    let mut buffers = Buffers {
+        labels,
+        links,
+        table,
+        outputs,
+        work,
+    };
+    Answer::from(runner::run(o, Size { w, h }, image, &mut buffers))
 }
 
 // `run_and_paint`, with the settings one by one.
@@ -157,7 +219,14 @@ pub fn color_clusters_run_and_paint(
         key_a,
         action,
     );
-    crate::run_and_paint(o, w, h, image, labels, links, table, outputs, work, picture)
+    let mut buffers = Buffers {
+        labels,
+        links,
+        table,
+        outputs,
+        work,
+    };
+    Answer::from(crate::run_and_paint(o, Size { w, h }, image, &mut buffers, picture))
 }
 
 // `container::to_color_image`.
@@ -174,14 +243,15 @@ pub fn color_clusters_paint(
     ensures { record { answer = result; picture = picture.new }
         ≡ paint_call w h links.now table.now outputs.now picture.old n m }
 {
-    container::to_color_image(w, h, links, table, outputs, picture, n, m)
+    let painted = container::to_color_image(clusters(w, h, links, table, outputs, n, m), picture);
+    refusal::answer_of(&painted)
 }
 
 // `sheet::row_check`.
 pub fn color_clusters_row_check(w: u32, h: u32, picture: &[u8], y: u32) -> u32
     ensures { result ≡ row_answer w h (length picture.now) y }
 {
-    sheet::row_check(w, h, picture, y)
+    refusal::answer_of(&sheet::row_check(Size { w, h }, picture, y))
 }
 
 // `sheet::store`.
@@ -200,5 +270,7 @@ pub fn color_clusters_store(
         ≡ store_call w h labels.now links.now table.now outputs.now
         destination.old n m }
 {
-    sheet::store(w, h, labels, links, table, outputs, destination, n, m)
+    let kept = clusters(w, h, links, table, outputs, n, m);
+    let stored = sheet::store(kept, labels, destination);
+    refusal::answer_of(&stored)
 }

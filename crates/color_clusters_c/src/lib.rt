@@ -10,7 +10,7 @@ ghost use Rattle.rules.specs.Demand3.{Demand3Left};
 ghost use Rattle.color_clusters.specs.Exports.{settings};
 
 use color_clusters::exports;
-use runner::Answer;
+use color_clusters::exports::Answer;
 
 // A run.
 #[unsafe(no_mangle)]

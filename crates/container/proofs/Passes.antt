@@ -2,20 +2,20 @@
 use mathlib.Core.Path.{◌≡◌, refl, sym, subst}
 use mathlib.Core.Bool.{Bool, true, false, ◌&&◌}
 use mathlib.Core.List.{List}
-use Prim.Native.Nat.{ℕ, zero, suc, ◌+◌, ◌-◌, ◌*◌, ◌≤◌, ◌<◌}
+use Prim.Native.Nat.{ℕ, zero, suc, ◌+◌, ◌-◌, ◌≤◌, ◌<◌}
 use native.Mathlib.Decide.{ℕ_discrete}
 use native.Mathlib.Nat.{not-suc-le-zero}
 use native.Mathlib.Numerals.{sub-one}
 use native.Mathlib.Omega.{arith}
 use borrow.Author.Tests.{ltb-true, leb-true, lt-ltb, le-leb}
 use lib.Dec.{T, leb, ltb}
-use lib.ListN.{length, get_or}
+use lib.ListN.{get_or}
 use Rattle.rules.specs.Color.{has_average}
 use Rattle.rules.specs.Paint.{reads, slot_number, slot_residue, entry_answer, entries_answer}
 use Rattle.rules.proofs.Facts.{is_true, both_true}
 use Rattle.rules.proofs.Walks.{reads_none}
-use Rattle.rules.specs.Layout.{slot_width, first_pixel_place, pixel_count_place}
-use Rattle.container.specs.Code.Quick.{NumbersPass, ListPasses, PassFrom, EntriesFit}
+use Rattle.rules.specs.Layout.{first_pixel_place, pixel_count_place}
+use Rattle.container.specs.Code.Quick.{NumbersPass, ListPasses, PassFrom}
 
 pub never {ℓ} : {A : Type ℓ} → false ≡ true → A
 never e = absurd (subst T (sym e) tt)
@@ -40,12 +40,6 @@ on-sheet i k size a b c d e =
     let t2 = both_true _ (leb a size) t3.0 in
     let t1 = both_true (ltb i k) (ltb 0 a) t2.0 in
     (ltb-true _ _ t1.0, (ltb-true _ _ t1.1, leb-true _ _ t2.1), (ltb-true _ _ t3.1, leb-true _ _ t4.1), (ltb-true _ _ t5.1, leb-true _ _ t6.1), (ltb-true _ _ t7.1, leb-true _ _ t8.1))
-
-pub entries_fit : {table outputs : List ℕ} {n m : ℕ} → slot_width * n ≤ length table → m ≤ length outputs → ((i : ℕ) → i < m → get_or outputs i 0 < n) → EntriesFit table outputs m
-entries_fit t o b = record { within = o; slots = λ i l. omega (arith, b i l) }
-
-pub fewer-fit : {table outputs : List ℕ} {m left : ℕ} → EntriesFit table outputs m → left ≤ m → EntriesFit table outputs left
-fewer-fit f l = record { within = omega (arith, f.within); slots = λ i b. f.slots i (omega arith) }
 
 module _ (size : ℕ) (links : List ℕ) where
   -- a list without pixels can be read

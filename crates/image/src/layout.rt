@@ -3,6 +3,8 @@
 ghost use Rattle.std.specs.Prelude.{◌≡◌};
 ghost use Rattle.rules.specs.Refusals.{short_sheet, bad_counts};
 
+use crate::Counts;
+
 pub const SLOT_WIDTH: usize = 21;
 
 pub const FIRST_PIXEL: usize = 0;
@@ -57,8 +59,8 @@ pub fn short(size: u32, links: usize, table: usize, outputs: usize) -> bool
 }
 
 // Check 5 too: whether a caller's count is too large.
-pub fn bad_counts(size: u32, n: u32, m: u32) -> bool
-    ensures { result ≡ bad_counts size n m }
+pub fn bad_counts(size: u32, counts: Counts) -> bool
+    ensures { result ≡ bad_counts size counts.n counts.m }
 {
-    (size as usize + 1 < n as usize) | (2 * (size as usize) < m as usize)
+    (size as usize + 1 < counts.n as usize) | (2 * (size as usize) < counts.m as usize)
 }

@@ -20,10 +20,6 @@ pub stored_some : (v : ℕ) → 0 < v → queue_key v ≡ v
 stored_some zero p = absurd (omega arith)
 stored_some (suc v) p = refl
 
-stored-le : (v : ℕ) → v < 4294967295 → queue_key v ≤ 4294967295
-stored-le zero l = omega arith
-stored-le (suc v) l = omega arith
-
 stored-pos : (v : ℕ) → queue_key v ≢ 4294967295 → 0 < v
 stored-pos zero d = absurd (d refl)
 stored-pos (suc v) d = omega arith
@@ -34,10 +30,10 @@ stored-zero (suc v) l e = absurd (omega arith)
 
 -- ---- the pick
 
-module _ (queue : List ℕ) (n room : ℕ) (keys : List ℕ) (r : Entry) (K : Keyed queue n keys) (F : First queue n room r) where
+module _ (queue : List ℕ) (n room : ℕ) (keys : List ℕ) (K : Keyed queue n keys) where
   -- a first slot that is pending is the pick, with the rules' key
-  pub first_some : r.key ≢ 4294967295 → (next_pending keys ≡ some r.slot) × (get_or keys r.slot 0 ≡ r.key)
-  first_some d = (pick-least keys r.slot (omega (arith, F.in-range, K.wide), (λ z. omega (arith, z, pos)), λ j l m. least j (omega (arith, K.wide)) m), same)
+  pub first_some : (r : Entry) (F : First queue n room r) → r.key ≢ 4294967295 → (next_pending keys ≡ some r.slot) × (get_or keys r.slot 0 ≡ r.key)
+  first_some r F d = (pick-least keys r.slot (omega (arith, F.in-range, K.wide), (λ z. omega (arith, z, pos)), λ j l m. least j (omega (arith, K.wide)) m), same)
     where
       at : r.key ≡ queue_key (get_or keys r.slot 0)
       at = F.own ∙ K.keyed r.slot F.in-range
@@ -54,13 +50,12 @@ module _ (queue : List ℕ) (n room : ℕ) (keys : List ℕ) (r : Entry) (K : Ke
           own : get_or queue j 0 ≡ get_or keys j 0
           own = K.keyed j l ∙ stored_some (get_or keys j 0) (elim (dec_lt 0 (get_or keys j 0)) [ yes p ↦ p | no p ↦ absurd (m (omega arith)) ])
 
-  -- where the first key is NONE no slot is pending
-  pub first-none : r.key ≡ 4294967295 → next_pending keys ≡ off
-  first-none e = pick-none keys (λ j. elim (dec_lt j n) [ yes l ↦ none j l (F.least j l) | no l ↦ get_or-eq_default keys 0 {n = j} (omega (arith, K.wide)) ])
-    where
-      none : (j : ℕ) → j < n → (r.key < get_or queue j 0) ⊎ ((r.key ≡ get_or queue j 0) × (r.slot ≤ j)) → get_or keys j 0 ≡ 0
-      none j l (inl x) = absurd (omega (arith, e, K.keyed j l, stored-le (get_or keys j 0) (K.below j l)))
-      none j l (inr x) = stored-zero (get_or keys j 0) (K.below j l) (sym (K.keyed j l) ∙ sym x.0 ∙ e)
+  -- where every key is NONE no slot is pending
+  pub first-none : ((j : ℕ) → j < n → get_or queue j 0 ≡ 4294967295) → next_pending keys ≡ off
+  first-none none = pick-none keys (λ j. elim (dec_lt j n) [
+    | yes l ↦ stored-zero (get_or keys j 0) (K.below j l) (sym (K.keyed j l) ∙ none j l)
+    | no l ↦ get_or-eq_default keys 0 {n = j} (omega (arith, K.wide))
+  ])
 
 -- ---- the keys of the queue and of the rules change together
 

@@ -28,7 +28,8 @@ use Rattle.rules.proofs.Order.{drained-stage2}
 use Rattle.rules.proofs.Ranges.{turns-ranged}
 use Rattle.runner.specs.Code.Outputs.{counted}
 use Rattle.runner.specs.Code.Rep.{Table, Rep, slots_of}
-use Rattle.runner.specs.Code.Stage1.{Holding, Given, Blank}
+use Rattle.runner.specs.Code.Given.{Given}
+use Rattle.runner.specs.Code.Stage1.{Holding, Blank}
 use Rattle.runner.specs.Code.Stage2.{part, with_part, ends_part, marks_part, Image, Entered, CanStage2, Staged}
 use Rattle.runner.specs.Code.Calls.{Blanked, CanRun, CanFinish, Finished}
 use Rattle.runner.proofs.Parts.{part_at, part_length, ends-length, length-with, part-with, part-after}

@@ -19,9 +19,8 @@ use Rattle.rules.proofs.Pixels.{pixel-at}
 use Rattle.rules.specs.Code.Bounds.{count_bound}
 use Rattle.color.specs.Colors.{color_of, option_of}
 use Rattle.color.specs.declared.Color as declared
-use Rattle.color.specs.declared.ColorOrNone.{ColorOrNone}
-use Rattle.color.specs.declared.ColorOrNone.TheVariants.{Some, None}
-use Rattle.runner.specs.Code.Stage1.{Given, Spot}
+use Rattle.std.specs.Prelude.{Option as Maybe, Some, None}
+use Rattle.runner.specs.Code.Given.{Given, Spot}
 use Rattle.runner.proofs.Places.{place_in}
 
 -- a pixel of the image is in one of its rows
@@ -119,11 +118,11 @@ module _ {w h i x y : ℕ} (image : List ℕ) (S : Spot w h i x y) (whole : leng
   own-pixel = pixel-at image w h x y whole S.column S.row ∙ ap (λ j. color_at image (some j)) (sym S.index)
 
   -- so it is there, and is the colour that stage 1 takes
-  pub never-off : (o : ColorOrNone) → o ≡ None → option_of o ≡ pixel_at image w h x y → ⊥
+  pub never-off : (o : Maybe declared.Color) → o ≡ None → option_of o ≡ pixel_at image w h x y → ⊥
   unfolding color_at
   never-off o e f = let z : ◌≡◌ {A = ℕ} 0 1 = cc (own-pixel, ap option_of e) in omega arith
 
-  pub own-color : (o : ColorOrNone) (c : declared.Color) → o ≡ Some c → option_of o ≡ pixel_at image w h x y → color_of c ≡ pixel image i
+  pub own-color : (o : Maybe declared.Color) (c : declared.Color) → o ≡ Some c → option_of o ≡ pixel_at image w h x y → color_of c ≡ pixel image i
   unfolding color_at
   own-color o c e f = cc (own-pixel, ap option_of e)
 

@@ -10,11 +10,10 @@ use native.Mathlib.Omega.{arith}
 use lib.Dec.{ltb, eqb}
 use lib.ListN.{length, get_or, set, length-set}
 use lib.Seq.{get_or-set_same, get_or-set_other, set-get_or}
-use borrow.Author.Tests.{ltb-true, ltb-false, lt-ltb, le-ltb, eqb-true, eqb-false, le-leb, lt-leb}
+use borrow.Author.Tests.{ltb-true, ltb-false, eqb-true, eqb-false, le-leb, lt-leb}
 use Rattle.rules.proofs.Facts.{both_true}
 use Rattle.runner.specs.declared.queue.Entry.{Entry}
-use Rattle.runner.specs.declared.queue.Taken.{Taken}
-use Rattle.runner.specs.Code.Queue.{Sized, leaf, node, entry_at, order_of, first_entry, beside_of, with_node, first_below, Tree, refreshed, Refreshed, First}
+use Rattle.runner.specs.Code.Queue.{Sized, leaf, node, entry_at, first_entry, beside_of, with_node, first_below, Tree, refreshed, First}
 
 -- ---- the order of entries
 
@@ -70,18 +69,6 @@ first_either a b = before-antisym (first_entry a b) (first_entry b a) (come (fir
     come : (c x y : Entry) → Before c x → Before c y → {d : Entry} → (d ≡ x) ⊎ (d ≡ y) → Before c d
     come c x y p q (inl e) = subst (Before c) (sym e) p
     come c x y p q (inr e) = subst (Before c) (sym e) q
-
--- the first of two entries, by their ranks
-module _ (a b : Entry) (la : a.slot < 4294967296) (lb : b.slot < 4294967296) where
-  pub rank-before : order_of a < order_of b → a ≡ first_entry a b
-  unfolding first_entry
-  rank-before l = by_cases (dec_lt a.key b.key) (λ y. rw (lt-ltb a.key b.key y))
-      (λ y. rw (le-ltb a.key b.key (omega arith), le-ltb b.key a.key (omega arith), lt-ltb a.slot b.slot (omega arith)))
-
-  pub rank-after : order_of b ≤ order_of a → b ≡ first_entry a b
-  unfolding first_entry
-  rank-after l = by_cases (dec_lt b.key a.key) (λ y. rw (le-ltb a.key b.key (omega arith), lt-ltb b.key a.key y))
-      (λ y. rw (le-ltb a.key b.key (omega arith), le-ltb b.key a.key (omega arith), le-ltb a.slot b.slot (omega arith)))
 
 -- ---- positions
 
@@ -159,8 +146,8 @@ module _ (queue : List ℕ) (n room : ℕ) (H : Tree queue n room) where
       up y e (k, l, z) = (k, l, e ∙ z)
 
   -- the root is the least
-  pub root-first : 1 ≤ n → First queue n room (entry_at queue n room 1)
-  root-first p = go (some-leaf (2 * n) 1 (omega arith) (omega arith) (omega arith))
+  pub root_first : 1 ≤ n → First queue n room (entry_at queue n room 1)
+  root_first p = go (some-leaf (2 * n) 1 (omega arith) (omega arith) (omega arith))
     where
       go : (k : ℕ) × (k < n) × (entry_at queue n room 1 ≡ leaf queue k) → First queue n room (entry_at queue n room 1)
       go (k, l, e) = subst (First queue n room) (sym e) (record {
@@ -228,6 +215,9 @@ module _ (queue : List ℕ) (n room j : ℕ) (e : Entry) (is : e ≡ first_below
       let z : node queue room j ≡ e = sym (at-node queue n room j l) ∙ sym at ∙ ap₂ (λ k s. record { key = k; slot = s }) (eqb-true old.key e.key b.0) (eqb-true old.slot e.slot b.1) in
       sym (set-get_or queue (room + 2 * j + 1) 0) ∙ ap (λ q. set q (room + 2 * j + 1) (get_or queue (room + 2 * j + 1) 0)) (sym (set-get_or queue (room + 2 * j) 0)) ∙ ap (with_node queue room j) z ∙ held-node
 
+-- a node that takes the first of its children, or holds it already
+pub ruleset takes_first = (first-beside, held-node, kept-node)
+
 -- ---- a changed key
 
 -- every node but j holds the first of its children
@@ -260,25 +250,25 @@ climb-start queue n room k v S b H = record {
         (λ y. (get_or-set_other queue k (room + 2 * x) v 0 (λ e. omega (arith, S.within)), get_or-set_other queue k (room + 2 * x + 1) v 0 (λ e. omega (arith, S.within))))
         (λ y. get_or-set_other queue k (x - n) v 0 (λ e. d (omega arith)))
 
-module _ (queue₀ queue next : List ℕ) (n room x : ℕ) (e : Entry) (C : Climbing queue₀ queue n room x e) (l : 1 < x) (t : Taken) (R : Refreshed queue next n room (x / 2) t) where
+module _ (queue₀ queue next : List ℕ) (n room x : ℕ) (e : Entry) (C : Climbing queue₀ queue n room x e) (l : 1 < x) where
   above_in : x / 2 < n
   above_in = omega (arith, C.inside)
 
   -- a node made from its children leaves at most the node above it
-  pub climb-up : Climbing queue₀ next n room (x / 2) t.entry
-  climb-up = subst (λ q. Climbing queue₀ q n room (x / 2) t.entry) (sym R.made) (record {
+  pub climb-up : (t : Entry) → next ≡ refreshed queue n room (x / 2) → t ≡ first_below queue n room (x / 2) → Climbing queue₀ next n room (x / 2) t
+  climb-up t m f = subst (λ q. Climbing queue₀ q n room (x / 2) t) (sym m) (record {
     sized = subst (Sized n room) (sym (made-length queue n room C.sized (x / 2) above_in)) C.sized;
     long = made-length queue n room C.sized (x / 2) above_in ∙ C.long;
     inside = omega (arith, C.inside);
-    stands = R.first ∙ sym (made-node queue n room C.sized (x / 2) above_in);
+    stands = f ∙ sym (made-node queue n room C.sized (x / 2) above_in);
     but = λ i p q d. made_holds queue n room C.sized (x / 2) above_in i p q d (C.but i p q);
     keys = λ y b. made-keys queue n room C.sized (x / 2) above_in y b ∙ C.keys y b;
   })
 
   -- where the node is as it was, nothing is left to do
-  pub climb-stop : t.changed ≡ false → Tree next n room
+  pub climb-stop : next ≡ refreshed queue n room (x / 2) → next ≡ queue → Tree next n room
   unfolding Tree
-  climb-stop z i p q = by_cases (ℕ_discrete i (x / 2 / 2)) (λ y. subst (λ g. entry_at g n room i ≡ first_below g n room i) (sym (R.kept z)) (C.but i p q (λ u. omega arith))) (climb-up.but i p q)
+  climb-stop m z i p q = by_cases (ℕ_discrete i (x / 2 / 2)) (λ y. subst (λ g. entry_at g n room i ≡ first_below g n room i) (sym z) (C.but i p q (λ u. omega arith))) ((climb-up (first_below queue n room (x / 2)) m refl).but i p q)
 
 pub climb-end : (queue₀ queue : List ℕ) (n room x : ℕ) (e : Entry) → x ≤ 1 → Climbing queue₀ queue n room x e → Tree queue n room
 unfolding Tree

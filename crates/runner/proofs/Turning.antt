@@ -1,6 +1,6 @@
 -- The turns of stage 2 in the buffers: one turn, the start and the end.
 use mathlib.Core.Path.{◌≡◌, sym, ap, ◌∙◌, subst}
-use mathlib.Core.Logic.{◌≢◌}
+use Rattle.std.proofs.Common.{Some, None}
 use mathlib.Core.List.{List}
 use Prim.Native.Nat.{ℕ, ◌+◌, ◌*◌, ◌≤◌, ◌<◌}
 use native.Mathlib.Numerals.{add-one}
@@ -14,7 +14,7 @@ use Rattle.rules.proofs.Order.{turns-few, turns-end}
 use Rattle.rules.proofs.Turns.{turn-ready, turns-table}
 use Rattle.runner.specs.declared.queue.Entry.{Entry}
 use Rattle.runner.specs.declared.stage2.Turns.{Turns}
-use Rattle.runner.specs.Code.Queue.{Sized, Tree, KeySet, First}
+use Rattle.runner.specs.Code.Queue.{Sized, Tree, KeySet, NextPending}
 use Rattle.runner.specs.Code.Stage2.{with_part, queue_part, Carried, queue_at, visit_at, Between, Chosen, Visiting, Visited, Staged}
 use Rattle.runner.proofs.Parts.{part_length}
 use Rattle.runner.proofs.Queues.{first_some, first-none}
@@ -41,26 +41,25 @@ module _ {o : RunnerConfig} {w h : ℕ} {image t₀ L K B W : List ℕ} {t : Tur
     I.carried.tree,
   )
 
-  module _ {e : Entry} (F : First (queue_part (w * h + 1) W) t.n (w * h + 1) e) where
-    -- one is pending
-    pub chooses : e.key ≢ 4294967295 → Chosen o w h image t.turns e.slot e.key
-    chooses d =
-        let x = first_some (queue_part (w * h + 1) W) t.n (w * h + 1) (queue_at o w h image t.turns).keys e I.carried.keyed F d in
-        record { picked = x.0; count = sym x.1 ∙ (turn-ready o w h image t.turns e.slot x.0).picked.key }
+  -- one is pending
+  pub chooses : (e : Entry) → NextPending (queue_part (w * h + 1) W) t.n (w * h + 1) (Some e) → Chosen o w h image t.turns e.slot e.key
+  chooses e N =
+      let x = first_some (queue_part (w * h + 1) W) t.n (w * h + 1) (queue_at o w h image t.turns).keys I.carried.keyed e N.0 N.1 in
+      record { picked = x.0; count = sym x.1 ∙ (turn-ready o w h image t.turns e.slot x.0).picked.key }
 
-    -- none is: stage 2 is over
-    pub ends : e.key ≡ 4294967295 → Staged (w * h) (stage2 o w h (stage1 o w h image)) t₀ L K B W t.n t.m
-    ends d = subst (λ u. Staged (w * h) u t₀ L K B W t.n t.m) over (record {
-      labelled = I.carried.rep.labelled;
-      linked = I.carried.rep.linked;
-      tabled = I.carried.rep.tabled;
-      slots = I.carried.slots;
-      entries = I.carried.entries;
-      staged = I.carried.staged;
-    })
-      where
-        over : (queue_at o w h image t.turns).now ≡ stage2 o w h (stage1 o w h image)
-        over = turns-end o w h image t.turns (first-none (queue_part (w * h + 1) W) t.n (w * h + 1) (queue_at o w h image t.turns).keys e I.carried.keyed F d)
+  -- none is: stage 2 is over
+  pub ends : NextPending (queue_part (w * h + 1) W) t.n (w * h + 1) None → Staged (w * h) (stage2 o w h (stage1 o w h image)) t₀ L K B W t.n t.m
+  ends N = subst (λ u. Staged (w * h) u t₀ L K B W t.n t.m) over (record {
+    labelled = I.carried.rep.labelled;
+    linked = I.carried.rep.linked;
+    tabled = I.carried.rep.tabled;
+    slots = I.carried.slots;
+    entries = I.carried.entries;
+    staged = I.carried.staged;
+  })
+    where
+      over : (queue_at o w h image t.turns).now ≡ stage2 o w h (stage1 o w h image)
+      over = turns-end o w h image t.turns (first-none (queue_part (w * h + 1) W) t.n (w * h + 1) (queue_at o w h image t.turns).keys I.carried.keyed N)
 
   -- one turn
   module _ {k a : ℕ} (C : Chosen o w h image t.turns k a) where

@@ -2,7 +2,9 @@
 pub mod Slots
 pub mod Rep
 pub mod Labelling
+pub mod Lists
 pub mod Ops
+pub mod Given
 pub mod Queue
 pub mod Neighbours
 pub mod Interior

@@ -5,7 +5,8 @@ ghost use Rattle.rules.specs.State.{is_empty, merge_rect, pixel_rect};
 ghost use Rattle.rules.specs.Code.Bounds.{count_bound};
 ghost use Rattle.runner.specs.Types.{rect_of};
 
-#[derive(Clone, Copy)]
+// All zero by default, the empty rectangle.
+#[derive(Clone, Copy, Default)]
 pub(crate) struct BoundingRect {
     pub(crate) left: u32,
     pub(crate) top: u32,
@@ -13,32 +14,9 @@ pub(crate) struct BoundingRect {
     pub(crate) bottom: u32,
 }
 
-fn min(x: u32, y: u32) -> u32
-    ensures { result ≡ Prim.Native.Nat.min x y }
-{
-    if x < y { x } else { y }
-}
-
-pub(crate) fn max(x: u32, y: u32) -> u32
-    ensures { result ≡ Prim.Native.Nat.max x y }
-{
-    if x < y { y } else { x }
-}
-
 impl BoundingRect {
-    // The empty rectangle.
-    pub(crate) fn empty() -> Self
-        ensures { rect_of result ≡ Rattle.rules.specs.State.empty_rect }
-    {
-        BoundingRect {
-            left: 0,
-            top: 0,
-            right: 0,
-            bottom: 0,
-        }
-    }
-
     // Whether it has neither width nor height.
+    #[tactic(auto, unfolding(rules::specs::State::is_empty))]
     pub(crate) fn is_empty(self) -> bool
         ensures { result ≡ is_empty (rect_of self) }
     {
@@ -46,6 +24,7 @@ impl BoundingRect {
     }
 
     // The smallest rectangle around both; an empty one does not count.
+    #[tactic(auto, unfolding(rules::specs::State::merge_rect))]
     pub(crate) fn merge(self, other: BoundingRect) -> Self
         ensures { rect_of result ≡ merge_rect (rect_of self) (rect_of other) }
     {
@@ -56,14 +35,15 @@ impl BoundingRect {
             return other;
         }
         BoundingRect {
-            left: min(self.left, other.left),
-            top: min(self.top, other.top),
-            right: max(self.right, other.right),
-            bottom: max(self.bottom, other.bottom),
+            left: self.left.min(other.left),
+            top: self.top.min(other.top),
+            right: self.right.max(other.right),
+            bottom: self.bottom.max(other.bottom),
         }
     }
 
     // The rectangle with the pixel at column x, row y.
+    #[tactic(auto, unfolding(rules::specs::State::pixel_rect))]
     pub(crate) fn add_x_y(self, x: u32, y: u32) -> Self
         requires { (x < count_bound) × (y < count_bound) }
         ensures { rect_of result ≡ merge_rect (rect_of self) (pixel_rect x y) }

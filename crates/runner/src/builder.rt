@@ -3,12 +3,13 @@
 // `ends` holds for each slot the last pixel of its list, then for each slot the last of its hole children, each plus
 // one.
 ghost use Rattle.std.specs.Prelude.{◌≡◌, ◌+◌, ◌-◌, ◌*◌, ◌≤◌, ◌<◌, eqb, length, get_or, set, if◌then◌else◌};
-ghost use Rattle.rules.specs.Layout.{InTable};
+ghost use Rattle.rules.specs.Layout.{InTable, slot_width, pixel_count_place};
 ghost use Rattle.rules.specs.Code.Bounds.{count_bound};
 ghost use Rattle.color.specs.Colors.{color_of};
 ghost use Rattle.runner.specs.Code.Rep.{link_after};
 ghost use Rattle.runner.specs.Code.Ops.{CanAdd, Added, CanAppend, Appended, Combined, CanMerge, Merged};
 ghost use Rattle.runner.specs.Code.Ops.{CanDeepen, Deepened, CanHollow, hole_link, Hollowed};
+ghost use Rattle.runner.specs.Code.Lists.{of_lists, SameLists};
 
 use super::{labelling, slot};
 use color::Color;
@@ -41,112 +42,6 @@ fn move_tail(ends: &mut [u32], f: u32, t: u32, count: u32)
     ends[t as usize] = ends[f as usize];
 }
 
-// Pixel i, of colour c at column x and row y, is added to cluster k.
-pub(crate) fn add(
-    labels: &mut [u32],
-    links: &mut [u32],
-    table: &mut [u32],
-    ends: &mut [u32],
-    k: u32,
-    i: u32,
-    x: u32,
-    y: u32,
-    c: Color,
-)
-    requires { CanAdd k i x y (color_of c) labels.old links.old table.old ends.old }
-    ensures { Added k i x y (color_of c)
-        labels.old links.old table.old ends.old
-        labels.new links.new table.new ends.new }
-{
-    let s = slot::load_head(table, k);
-    link_after(links, s.count, ends[k as usize], i + 1);
-    labels[i as usize] = k;
-    ends[k as usize] = i + 1;
-    slot::save_head(table, k, s.with_pixel(i, x, y, c));
-}
-
-// The list, sum and rectangle of f are added to t's, and its pixels are relabelled: first, so that nothing but the list
-// is held meanwhile.
-fn combine_clusters_clone(
-    labels: &mut [u32],
-    links: &mut [u32],
-    table: &mut [u32],
-    ends: &mut [u32],
-    f: u32,
-    t: u32,
-)
-    requires { CanAppend f t labels.old links.old table.old ends.old }
-    ensures { Appended f t labels.old links.old table.old ends.old
-        labels.new links.new table.new ends.new }
-{
-    labelling::relabel(
-        labels,
-        links,
-        slot::first_pixel(table, f),
-        slot::count_of(table, f),
-        t,
-    );
-    let from = slot::load_head(table, f);
-    let to = slot::load_head(table, t);
-    link_after(links, to.count, ends[t as usize], from.first);
-    move_tail(ends, f, t, from.count);
-    slot::save_head(table, t, to.with_cluster(from));
-}
-
-// A merge of stage 1: f goes into t.
-pub(crate) fn combine_clusters(
-    labels: &mut [u32],
-    links: &mut [u32],
-    table: &mut [u32],
-    ends: &mut [u32],
-    f: u32,
-    t: u32,
-)
-    requires { CanAppend f t labels.old links.old table.old ends.old }
-    ensures { Combined f t labels.old links.old table.old ends.old
-        labels.new links.new table.new ends.new }
-{
-    combine_clusters_clone(labels, links, table, ends, f, t);
-    slot::save_head(table, f, slot::load_head(table, f).cleared());
-}
-
-// A plain merge of stage 2: f's residue is added to t's too.
-pub(crate) fn merge_cluster_into(
-    labels: &mut [u32],
-    links: &mut [u32],
-    table: &mut [u32],
-    ends: &mut [u32],
-    f: u32,
-    t: u32,
-)
-    requires { CanMerge f t labels.old links.old table.old ends.old }
-    ensures { Merged f t labels.old links.old table.old ends.old
-        labels.new links.new table.new ends.new }
-{
-    let r = color::sum_of_two(slot::load_residue(table, t), slot::load_residue(table, f));
-    slot::save_residue(table, t, r);
-    combine_clusters(labels, links, table, ends, f, t);
-}
-
-// A deepening merge, without its hole: f keeps what it has.
-pub(crate) fn deepen_cluster_into(
-    labels: &mut [u32],
-    links: &mut [u32],
-    table: &mut [u32],
-    ends: &mut [u32],
-    f: u32,
-    t: u32,
-)
-    requires { CanDeepen f t labels.old links.old table.old ends.old }
-    ensures { Deepened f t labels.old links.old table.old ends.old
-        labels.new links.new table.new ends.new }
-{
-    let depth = table[layout::SLOT_WIDTH * (t as usize) + layout::DEPTH];
-    combine_clusters_clone(labels, links, table, ends, f, t);
-    table[layout::SLOT_WIDTH * (f as usize) + layout::MERGED_INTO] = t;
-    table[layout::SLOT_WIDTH * (t as usize) + layout::DEPTH] = depth + 1;
-}
-
 // The link of the hole list of t to its new child f: from t where there was none, else from the last child.
 fn link_hole(table: &mut [u32], holes: u32, tail: u32, f: u32, t: u32)
     requires { (InTable t table.old) × (f < count_bound)
@@ -158,6 +53,102 @@ fn link_hole(table: &mut [u32], holes: u32, tail: u32, f: u32, t: u32)
         return;
     }
     table[layout::SLOT_WIDTH * ((tail - 1) as usize) + layout::NEXT_HOLE] = f + 1;
+}
+
+// The clusters under construction: labels, links and table, and the ends of the lists.
+#[derive(Drop)]
+pub(crate) struct Builder<'a> {
+    pub(crate) labels: &'a mut [u32],
+    pub(crate) links: &'a mut [u32],
+    pub(crate) table: &'a mut [u32],
+    pub(crate) ends: &'a mut [u32],
+}
+
+impl<'a> Builder<'a> {
+    // The pixel count of slot k.
+    pub(crate) fn count_of(&self, k: u32) -> u32
+        requires { InTable k self.now.table.now }
+        ensures { result ≡ get_or self.now.table.now (slot_width * k + pixel_count_place) 0 }
+    {
+        slot::count_of(self.table, k)
+    }
+
+    // Pixel i, of colour c at column x and row y, is added to cluster k.
+    pub(crate) fn add(&mut self, k: u32, i: u32, x: u32, y: u32, c: Color)
+        requires { of_lists (CanAdd k i x y (color_of c)) self.old }
+        ensures loans { SameLists self.old self.new }
+        ensures added { of_lists (of_lists (Added k i x y (color_of c)) self.old) self.new }
+    {
+        let labels = &mut *self.labels;
+        let links = &mut *self.links;
+        let table = &mut *self.table;
+        let ends = &mut *self.ends;
+        let s = slot::load_head(table, k);
+        link_after(links, s.count, ends[k as usize], i + 1);
+        labels[i as usize] = k;
+        ends[k as usize] = i + 1;
+        slot::save_head(table, k, s.with_pixel(i, x, y, c));
+    }
+
+    // The list, sum and rectangle of f are added to t's, and its pixels are relabelled: first, so that nothing but the
+    // list is held meanwhile.
+    fn combine_clusters_clone(&mut self, f: u32, t: u32)
+        requires { of_lists (CanAppend f t) self.old }
+        ensures loans { SameLists self.old self.new }
+        ensures appended { of_lists (of_lists (Appended f t) self.old) self.new }
+    {
+        let labels = &mut *self.labels;
+        let links = &mut *self.links;
+        let table = &mut *self.table;
+        let ends = &mut *self.ends;
+        labelling::relabel(
+            labels,
+            links,
+            slot::first_pixel(table, f),
+            slot::count_of(table, f),
+            t,
+        );
+        let from = slot::load_head(table, f);
+        let to = slot::load_head(table, t);
+        link_after(links, to.count, ends[t as usize], from.first);
+        move_tail(ends, f, t, from.count);
+        slot::save_head(table, t, to.with_cluster(from));
+    }
+
+    // A merge of stage 1: f goes into t.
+    pub(crate) fn combine_clusters(&mut self, f: u32, t: u32)
+        requires { of_lists (CanAppend f t) self.old }
+        ensures loans { SameLists self.old self.new }
+        ensures combined { of_lists (of_lists (Combined f t) self.old) self.new }
+    {
+        self.combine_clusters_clone(f, t);
+        let table = &mut *self.table;
+        slot::save_head(table, f, slot::load_head(table, f).cleared());
+    }
+
+    // A plain merge of stage 2: f's residue is added to t's too.
+    pub(crate) fn merge_cluster_into(&mut self, f: u32, t: u32)
+        requires { of_lists (CanMerge f t) self.old }
+        ensures loans { SameLists self.old self.new }
+        ensures merged { of_lists (of_lists (Merged f t) self.old) self.new }
+    {
+        let table = &mut *self.table;
+        let r = slot::load_residue(table, t).plus(slot::load_residue(table, f));
+        slot::save_residue(table, t, r);
+        self.combine_clusters(f, t);
+    }
+
+    // A deepening merge, without its hole: f keeps what it has.
+    pub(crate) fn deepen_cluster_into(&mut self, f: u32, t: u32)
+        requires { of_lists (CanDeepen f t) self.old }
+        ensures loans { SameLists self.old self.new }
+        ensures deepened { of_lists (of_lists (Deepened f t) self.old) self.new }
+    {
+        let depth = self.table[layout::SLOT_WIDTH * (t as usize) + layout::DEPTH];
+        self.combine_clusters_clone(f, t);
+        self.table[layout::SLOT_WIDTH * (f as usize) + layout::MERGED_INTO] = t;
+        self.table[layout::SLOT_WIDTH * (t as usize) + layout::DEPTH] = depth + 1;
+    }
 }
 
 // f is appended to the hole children of t.

@@ -1,18 +1,22 @@
 // An accepted run: stage 1, stage 2, and what is left at the end.
-ghost use Rattle.std.specs.Prelude.{◌≡◌, false, ◌+◌, ◌*◌, ◌≤◌, pos, length};
+ghost use Rattle.std.specs.Prelude.{◌≡◌, false, ◌+◌, ◌*◌, ◌≤◌, ℕ, pos, length};
 ghost use Rattle.rules.specs.Refusals.{bad_shift};
 ghost use Rattle.rules.specs.Run.{stage1, stage2};
-ghost use Rattle.rules.specs.Calls.{as_buffers, answered};
+ghost use Rattle.rules.specs.Calls.{answered};
 ghost use Rattle.rules.specs.Calls as rules;
 ghost use Rattle.rules.specs.Code.Bounds.{count_bound};
 ghost use Rattle.rules.specs.Code.Accepted.{Accepted};
-ghost use Rattle.runner.specs.Types.{config_of};
+ghost use Rattle.runner.specs.Types.{config_of, buffers_of, SameLoans};
+ghost use Rattle.runner.specs.Code.Stage1.{Blank, Holding};
 ghost use Rattle.runner.specs.Code.Stage2.{CanStage2, Entered, Staged};
 ghost use Rattle.runner.specs.Code.Calls.{Blanked, CanRun, CanFinish, Finished};
 
+use super::builder::Builder;
+use super::input::Input;
 use super::stage2::Turns;
 use super::{outputs, stage1, stage2};
-use crate::{Answer, RunnerConfig};
+use crate::{Buffers, RunnerConfig};
+use image::{Counts, Size};
 
 // A shift of 0 to 7 as a number.
 fn shift_of(shift: i32) -> u32
@@ -28,9 +32,32 @@ fn blank(labels: &mut [u32], links: &mut [u32], work: &mut [u32], room: usize)
     ensures { Blanked room labels.old links.old work.old
         labels.new links.new work.new }
 {
-    outputs::clear(labels);
-    outputs::clear(links);
-    outputs::clear(&mut work[5 * room..6 * room]);
+    labels.fill(0);
+    links.fill(0);
+    work[5 * room..6 * room].fill(0);
+}
+
+// Stage 1, over lists that are lent one by one; answers the number of slots.
+fn stage_1(
+    labels: &mut [u32],
+    links: &mut [u32],
+    table: &mut [u32],
+    ends: &mut [u32],
+    input: Input,
+) -> u32
+    requires { Blank (input.w * input.h) labels.old links.old table.old ends.old }
+    ensures { let p = input.entry in (next : ℕ)
+        × Holding (p.w * p.h) (stage1 (config_of p.o) p.w p.h p.image.now) table.old
+        labels.new links.new table.new ends.new next result }
+{
+    let mut b = Builder {
+        labels,
+        links,
+        table,
+        ends,
+    };
+    let slots = stage1::stage_1(&mut b, input);
+    slots.count
 }
 
 // Stage 1 from blank buffers; answers the number of slots.
@@ -52,18 +79,14 @@ fn label_image(
     let room = (w * h) as usize + 1;
     let shift = o.is_same_color_a;
     blank(labels, links, work, room);
-    let s = stage1::stage_1(
-        image,
-        labels,
-        links,
-        table,
-        &mut work[3 * room..5 * room],
+    let input = Input {
         o,
-        shift_of(shift),
+        shift: shift_of(shift),
+        image,
         w,
         h,
-    );
-    s.count
+    };
+    stage_1(labels, links, table, &mut work[3 * room..5 * room], input)
 }
 
 // Both stages.
@@ -94,47 +117,28 @@ fn finish(table: &[u32], outputs: &mut [u32], work: &mut [u32], room: usize, m: 
         outputs.new work.new result }
 {
     let kept = outputs::drop_empty(table, &work[6 * room..8 * room], outputs, m);
-    outputs::clear(work);
+    work.fill(0);
     kept
 }
 
 // A run whose checks are passed, over the beginnings of the buffers, which may be longer.
-pub(crate) fn accepted(
-    o: RunnerConfig,
-    w: u32,
-    h: u32,
-    image: &[u8],
-    labels: &mut [u32],
-    links: &mut [u32],
-    table: &mut [u32],
-    outputs: &mut [u32],
-    work: &mut [u32],
-) -> Answer
-    requires { Accepted (config_of o) w h (length image.now) (length labels.old) (length links.old)
-        (length table.old) (length outputs.old) (length work.old) }
-    ensures { answered result.number result.n result.m
-        (as_buffers labels.new links.new table.new outputs.new
-        work.new)
-        ≡ rules.accepted (config_of o) w h image.now
-        (as_buffers labels.old links.old table.old outputs.old
-        work.old) }
+pub(crate) fn accepted(o: RunnerConfig, size: Size, image: &[u8], buffers: &mut Buffers) -> Counts
+    requires { let b = buffers.old in
+        Accepted (config_of o) size.w size.h (length image.now) (length b.labels.now) (length b.links.now)
+        (length b.table.now) (length b.outputs.now) (length b.work.now) }
+    ensures loans { SameLoans buffers.old buffers.new }
+    ensures call { answered 0 result.n result.m (buffers_of buffers.new)
+        ≡ rules.accepted (config_of o) size.w size.h image.now (buffers_of buffers.old) }
 {
+    let (w, h) = (size.w, size.h);
     let size = (w * h) as usize;
     let room = size + 1;
-    let t = both_stages(
-        image,
-        &mut labels[0..size],
-        &mut links[0..size],
-        table,
-        &mut work[0..8 * room],
-        o,
-        w,
-        h,
-    );
+    let labels = &mut buffers.labels[0..size];
+    let links = &mut buffers.links[0..size];
+    let table = &mut *buffers.table;
+    let outputs = &mut *buffers.outputs;
+    let work = &mut *buffers.work;
+    let t = both_stages(image, labels, links, table, &mut work[0..8 * room], o, w, h);
     let m = finish(table, outputs, work, room, t.m);
-    Answer {
-        number: 0,
-        n: t.n,
-        m,
-    }
+    Counts { n: t.n, m }
 }

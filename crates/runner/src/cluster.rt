@@ -9,7 +9,7 @@ ghost use Rattle.runner.specs.Code.Slots.{sum_at};
 ghost use Rattle.runner.specs.Code.Neighbours.{place_label, diff_from, with_neighbour, Scan, noted, noted_four};
 ghost use Rattle.runner.specs.Code.Neighbours.{Averaged, Notable, Scannable, Found};
 
-use color::{Color, ColorOrNone};
+use color::Color;
 use image::layout;
 
 // The label of the pixel above p, 0 where there is none; so down, left and right.
@@ -71,7 +71,7 @@ pub(crate) fn color(table: &[u32], k: u32) -> Color
     ensures { color_of result ≡ average (sum_at table.now k) }
 {
     let s = color::sum_in(table, layout::SLOT_WIDTH * (k as usize) + layout::SUM_R);
-    let ColorOrNone::Some(c) = s.average() else {
+    let Some(c) = s.average() else {
         return Color {
             r: 0,
             g: 0,
@@ -224,17 +224,16 @@ pub(crate) fn neighbours(
     let b = layout::SLOT_WIDTH * (k as usize);
     let mine = color(table, k);
     let mut at = table[b + layout::FIRST_PIXEL];
-    let mut left = table[b + layout::PIXEL_COUNT];
+    let count = table[b + layout::PIXEL_COUNT];
     let mut found = Nearest {
         count: 0,
         target: 0,
         diff: 0,
     };
-    while 0 < left {
+    for _ in 0..count {
         let p = at - 1;
         found = look(labels, table, marks, w, h, visit, k, mine, p, found);
         at = links[p as usize];
-        left = left - 1;
     }
     found
 }

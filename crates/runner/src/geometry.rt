@@ -18,29 +18,21 @@ fn in_list(image: &[u8], labels: &[u32], o: RunnerConfig, k: u32, q: u32) -> boo
     requires { (q < length labels.now) × (4 * length labels.now ≤ length image.now) }
     ensures { result ≡ in_list (config_of o) image.now labels.now k q }
 {
-    if labels[q as usize] == k {
-        return !keying::is_discarded(image, o, q);
-    }
-    false
+    labels[q as usize] == k && !keying::is_discarded(image, o, q)
 }
 
 // Whether pixel p has its four neighbours in the list of cluster k.
+#[tactic(auto, unfolding(rules::specs::Grid::sides, rules::specs::Stage2::all_in))]
 fn surrounded(image: &[u8], labels: &[u32], o: RunnerConfig, w: u32, h: u32, k: u32, p: u32) -> bool
     requires { (p < w * h) × (w * h ≡ length labels.now) × (4 * length labels.now ≤ length image.now)
         × (w * h ≤ count_bound) × (0 < w) }
     ensures { result ≡ all_in (in_list (config_of o) image.now labels.now k) (sides w h p) }
 {
-    if p < w {
-        return false;
-    }
-    if w * h <= p + w {
+    if p < w || w * h <= p + w {
         return false;
     }
     let x = p % w;
-    if x == 0 {
-        return false;
-    }
-    if w <= x + 1 {
+    if x == 0 || w <= x + 1 {
         return false;
     }
     let up = in_list(image, labels, o, k, p - w);
@@ -51,6 +43,7 @@ fn surrounded(image: &[u8], labels: &[u32], o: RunnerConfig, w: u32, h: u32, k: 
 }
 
 // Whether some pixel of the list of count pixels from first has its four neighbours in the list of cluster k.
+#[tactic(auto, unfolding(crate::specs::Code::Interior::some_inside), using(rules::proofs::Walks::walk_none))]
 pub(crate) fn has_interior(
     image: &[u8],
     labels: &[u32],
@@ -70,14 +63,12 @@ pub(crate) fn has_interior(
         image.now labels.now w h k (walk (λ p. get_or links.now p 0) first count) }
 {
     let mut at = first;
-    let mut left = count;
-    while 0 < left {
+    for _ in 0..count {
         let p = at - 1;
         if surrounded(image, labels, o, w, h, k, p) {
             return true;
         }
         at = links[p as usize];
-        left = left - 1;
     }
     false
 }

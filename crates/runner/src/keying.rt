@@ -26,35 +26,27 @@ pub(crate) fn color_at(image: &[u8], i: u32) -> Color
 pub(crate) fn keying_on(o: RunnerConfig) -> bool
     ensures { result ≡ keying_on (config_of o) }
 {
-    let key = o.key_color;
-    !color::equal(
-        key,
-        Color {
+    o.key_color
+        != Color {
             r: 0,
             g: 0,
             b: 0,
             a: 0,
-        },
-    )
+        }
 }
 
 // Whether pixels of the key colour are discarded.
 pub(crate) fn is_discard(o: RunnerConfig) -> bool
     ensures { result ≡ is_discard (action_of o.keying_action) }
 {
-    let action = o.keying_action;
-    match action {
-        KeyingAction::Keep => false,
-        KeyingAction::Discard => true,
-    }
+    o.keying_action == KeyingAction::Discard
 }
 
 // Whether a pixel of colour c is a key pixel: it has the key colour, with keying on.
 pub(crate) fn is_key_color(o: RunnerConfig, c: Color) -> bool
     ensures { (image : List ℕ) (i : ℕ) → color_of c ≡ pixel image i → result ≡ is_key (config_of o) image i }
 {
-    let key = o.key_color;
-    keying_on(o) & color::equal(c, key)
+    keying_on(o) & (c == o.key_color)
 }
 
 // Whether pixel i is a key pixel.

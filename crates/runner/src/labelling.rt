@@ -11,27 +11,7 @@ pub(crate) fn fill(labels: &mut [u32], i: u32, n: u32, k: u32)
     requires { (i + n ≤ length labels.old) × (i + n < count_bound) }
     ensures { labels.new ≡ set_from labels.old i n k }
 {
-    let mut j = 0;
-    while j < n {
-        labels[(i + j) as usize] = k;
-        j += 1;
-    }
-}
-
-// How many links of the list of `left` pixels from `at`, its first ones, each lead to the next pixel of the image.
-fn stretch(links: &[u32], at: u32, left: u32) -> u32
-    requires by_index { (L : List ℕ) × CanRelabel L links.now at left }
-    requires left_nonzero { 0 < left }
-    ensures { (result < left) × Consecutive links.now at result }
-{
-    let mut n = 0;
-    while n + 1 < left {
-        if links[(at - 1 + n) as usize] != at + n + 1 {
-            return n;
-        }
-        n += 1;
-    }
-    n
+    labels[i as usize..(i + n) as usize].fill(k);
 }
 
 // What is left of a list: its first pixel, plus one, and the number of its pixels.
@@ -41,17 +21,33 @@ struct Rest {
     left: u32,
 }
 
-// Labels the first pixel of the list of `left` pixels from `at` with t, and those that follow it both in the list and
-// in the image. Their places do not wait for their links.
-fn relabel_stretch(labels: &mut [u32], links: &[u32], at: u32, left: u32, t: u32) -> Rest
-    requires can_relabel { CanRelabel labels.old links.now at left }
-    requires left_nonzero { 0 < left }
-    ensures { (result.left < left)
-        × Relabels t labels.old links.now at left labels.new result.at result.left }
+// How many links of the rest of a list, its first ones, each lead to the next pixel of the image.
+fn stretch(links: &[u32], rest: Rest) -> u32
+    requires by_index { (L : List ℕ) × CanRelabel L links.now rest.at rest.left }
+    requires left_nonzero { 0 < rest.left }
+    ensures { (result < rest.left) × Consecutive links.now rest.at result }
 {
+    let Rest { at, left } = rest;
+    for n in 0..left - 1 {
+        if links[(at - 1 + n) as usize] != at + n + 1 {
+            return n;
+        }
+    }
+    left - 1
+}
+
+// Labels the first pixel of the rest of a list with t, and those that follow it both in the list and in the image;
+// answers what is left then. Their places do not wait for their links.
+fn relabel_stretch(labels: &mut [u32], links: &[u32], rest: Rest, t: u32) -> Rest
+    requires can_relabel { CanRelabel labels.old links.now rest.at rest.left }
+    requires left_nonzero { 0 < rest.left }
+    ensures { (result.left < rest.left)
+        × Relabels t labels.old links.now rest.at rest.left labels.new result.at result.left }
+{
+    let Rest { at, left } = rest;
     let after = links[(at - 1) as usize];
     if after == at + 1 {
-        let n = stretch(links, at, left);
+        let n = stretch(links, rest);
         fill(labels, at - 1, n + 1, t);
         return Rest {
             at: links[(at - 1 + n) as usize],
@@ -66,16 +62,17 @@ fn relabel_stretch(labels: &mut [u32], links: &[u32], at: u32, left: u32, t: u32
 }
 
 // Labels the pixels of the list of count pixels from first with t.
+#[tactic(auto, using(rules::proofs::Walks::walk_none))]
 pub(crate) fn relabel(labels: &mut [u32], links: &[u32], first: u32, count: u32, t: u32)
     requires { CanRelabel labels.old links.now first count }
     ensures { labels.new
         ≡ rules.relabel t (walk (λ p. get_or links.now p 0) first count) labels.old }
 {
-    let mut at = first;
-    let mut left = count;
-    while 0 < left {
-        let r = relabel_stretch(labels, links, at, left, t);
-        at = r.at;
-        left = r.left;
+    let mut rest = Rest {
+        at: first,
+        left: count,
+    };
+    while 0 < rest.left {
+        rest = relabel_stretch(labels, links, rest, t);
     }
 }

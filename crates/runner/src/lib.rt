@@ -2,11 +2,13 @@
 #![tactic(auto)]
 
 mod bound;
+mod buffers;
 mod builder;
 mod calls;
 mod checks;
 mod cluster;
 mod geometry;
+mod input;
 mod keying;
 mod labelling;
 mod outputs;
@@ -17,21 +19,23 @@ mod stage1;
 mod stage2;
 
 ghost use Rattle.std.specs.Prelude.{◌≡◌};
-ghost use Rattle.rules.specs.Refusals.{run_answer};
-ghost use Rattle.rules.specs.Calls.{as_buffers, answered, run_call};
-ghost use Rattle.runner.specs.Types.{config_of};
+ghost use Rattle.rules.specs.Calls.{run_call};
+ghost use Rattle.runner.specs.Types.{config_of, buffers_of, SameLoans, ran_of};
 
+pub use buffers::Buffers;
 use color::Color;
+use image::{Counts, Size};
+use refusal::Refusal;
 
 // What is done with pixels of the key colour.
-#[derive(Clone, Copy)]
+#[derive(Clone, Copy, Debug, PartialEq, Eq)]
 pub enum KeyingAction {
     Keep,
     Discard,
 }
 
 // `hierarchical` of a run that deepens.
-pub const HIERARCHICAL_MAX: u32 = 4294967295;
+pub const HIERARCHICAL_MAX: u32 = u32::MAX;
 
 // The settings, with the Rust's names. The shift is `is_same_color_a`; the key (0,0,0,0) turns keying off.
 #[derive(Clone, Copy)]
@@ -47,80 +51,17 @@ pub struct RunnerConfig {
     pub keying_action: KeyingAction,
 }
 
-// The number of the first check that failed, or 0; the numbers of slots and of outputs, 0 where the call is refused.
-#[repr(C)]
-#[derive(Clone, Copy)]
-pub struct Answer {
-    pub number: u32,
-    pub n: u32,
-    pub m: u32,
-}
-
-// The number that `run` answers with these settings and sizes; image, labels, links, table, outputs and work are
-// lengths.
-pub fn run_answer(
-    o: RunnerConfig,
-    w: u32,
-    h: u32,
-    image: usize,
-    labels: usize,
-    links: usize,
-    table: usize,
-    outputs: usize,
-    work: usize,
-) -> u32
-    ensures { result ≡ run_answer w h (config_of o) image labels links table outputs work }
-{
-    if checks::bad_shift(o.is_same_color_a) {
-        return 1;
-    }
-    let answer = image::size_answer(w, h);
-    if answer != 0 {
-        return answer;
-    }
-    let size = image::area(w, h) as u32;
-    if image != 4 * size as usize {
-        return 4;
-    }
-    if checks::short(size, labels, links, table, outputs, work) {
-        return 5;
-    }
-    0
-}
-
-// Clusters the w × h pixels of the image into labels, links, table and outputs. A number other than 0 refuses the call,
-// which changes nothing.
+// Clusters the pixels of the image into the buffers. A call that is refused changes nothing.
 pub fn run(
     o: RunnerConfig,
-    w: u32,
-    h: u32,
+    size: Size,
     image: &[u8],
-    labels: &mut [u32],
-    links: &mut [u32],
-    table: &mut [u32],
-    outputs: &mut [u32],
-    work: &mut [u32],
-) -> Answer
-    ensures { answered result.number result.n result.m
-        (as_buffers labels.new links.new table.new outputs.new
-        work.new)
-        ≡ run_call (config_of o) w h image.now
-        (as_buffers labels.old links.old table.old outputs.old
-        work.old) }
+    buffers: &mut Buffers,
+) -> Result<Counts, Refusal>
+    ensures loans { SameLoans buffers.old buffers.new }
+    ensures call { ran_of result (buffers_of buffers.new)
+        ≡ run_call (config_of o) size.w size.h image.now (buffers_of buffers.old) }
 {
-    let number = run_answer(
-        o,
-        w,
-        h,
-        image.len(),
-        labels.len(),
-        links.len(),
-        table.len(),
-        outputs.len(),
-        work.len(),
-    );
-    if number != 0 {
-        return Answer { number, n: 0, m: 0 };
-    }
-    calls::accepted(o, w, h, image, labels, links, table, outputs, work)
+    buffers.pixels(o, size, image)?;
+    Ok(calls::accepted(o, size, image, buffers))
 }

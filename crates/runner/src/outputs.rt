@@ -1,21 +1,10 @@
-// What a run leaves at its end: the outputs that still count something, and a work buffer of zeros.
-ghost use Rattle.std.specs.Prelude.{◌≡◌, ℕ, ◌+◌, ◌*◌, ◌≤◌, ◌<◌, length, get_or, take, replicate};
+// What a run leaves at its end: the outputs that still count something.
+ghost use Rattle.std.specs.Prelude.{◌≡◌, ℕ, ◌+◌, ◌*◌, ◌≤◌, ◌<◌, length, get_or, take};
 ghost use Rattle.rules.specs.Calls.{over};
 ghost use Rattle.rules.specs.Layout.{slot_width, InTable};
 ghost use Rattle.runner.specs.Code.Outputs.{Kept, counted};
 
 use image::layout;
-
-// Writes zeros over the whole buffer.
-pub(crate) fn clear(buffer: &mut [u32])
-    ensures { buffer.new ≡ replicate (length buffer.old) 0 }
-{
-    let mut i = 0;
-    while i < buffer.len() {
-        buffer[i] = 0;
-        i += 1;
-    }
-}
 
 // Entry k is kept as number `kept` of the outputs if its sum counts something; answers how many are kept now.
 fn keep_entry(table: &[u32], outputs: &mut [u32], k: u32, kept: u32) -> u32
@@ -37,11 +26,9 @@ pub(crate) fn drop_empty(table: &[u32], staged: &[u32], outputs: &mut [u32], m: 
         ≡ over (counted table.now (take m staged.now)) outputs.old)
         × (result ≡ length (counted table.now (take m staged.now))) }
 {
-    let mut i = 0;
     let mut kept = 0;
-    while i < m {
-        kept = keep_entry(table, outputs, staged[i as usize], kept);
-        i += 1;
+    for &k in &staged[..m as usize] {
+        kept = keep_entry(table, outputs, k, kept);
     }
     kept
 }

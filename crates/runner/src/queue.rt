@@ -6,11 +6,12 @@
 ghost use Rattle.std.specs.Prelude.{◌≡◌, ◌+◌, ◌*◌, ◌/◌, ◌<◌, length};
 ghost use Rattle.rules.specs.Code.Bounds.{sum_bound};
 ghost use Rattle.runner.specs.Code.Queue.{Sized, entry_at, order_of, first_entry, with_node, beside_of, Tree};
-ghost use Rattle.runner.specs.Code.Queue.{Refreshed, Built, KeySet, First};
+ghost use Rattle.runner.specs.Code.Queue.{Refreshed, Built, KeySet, NextPending};
 
 // The key of a slot that is not pending.
 pub(crate) const NONE: u32 = 4294967295;
 
+// A slot with its key.
 #[derive(Clone, Copy)]
 pub(crate) struct Entry {
     pub(crate) key: u32,
@@ -18,6 +19,7 @@ pub(crate) struct Entry {
 }
 
 // What stands at position x: a leaf's key and slot, or what a node holds.
+#[tactic(auto, unfolding(crate::specs::Code::Queue::entry_at))]
 fn at(queue: &[u32], n: usize, room: usize, x: usize) -> Entry
     requires sized { Sized n room (length queue.now) }
     requires x_bound { x < 2 * n }
@@ -46,6 +48,7 @@ fn order_of(e: Entry) -> u64
 
 // The smaller key, of equal keys the smaller slot. One comparison, since which of two entries comes first is hard to
 // foretell.
+#[tactic(auto, unfolding(crate::specs::Code::Queue::first_entry))]
 fn first_entry(a: Entry, b: Entry) -> Entry
     ensures { result ≡ first_entry a b }
 {
@@ -76,25 +79,18 @@ pub(crate) fn build(queue: &mut [u32], n: usize, room: usize)
     requires { Sized n room (length queue.old) }
     ensures { Built queue.old queue.new n room }
 {
-    let mut j = n;
-    while 1 < j {
-        j = j - 1;
+    for j in (1..n).rev() {
         let a = at(queue, n, room, 2 * j);
         let b = at(queue, n, room, 2 * j + 1);
         hold(queue, n, room, j, first_entry(a, b));
     }
 }
 
-// What a node holds, and whether that changed it.
-#[derive(Clone, Copy)]
-pub(crate) struct Taken {
-    pub(crate) entry: Entry,
-    pub(crate) changed: bool,
-}
-
-// The node above position x, where e stands, takes the first of its children. Where that does not change it, no node
-// above it changes either.
-fn refresh(queue: &mut [u32], n: usize, room: usize, x: usize, e: Entry) -> Taken
+// The node above position x, where e stands, takes the first of its children; answers it, or None where the node held
+// it already: then no node above changes either. Key and slot are compared without a branch between: it is hard to
+// foretell.
+#[tactic(auto, using(crate::proofs::Tournament::takes_first))]
+fn refresh(queue: &mut [u32], n: usize, room: usize, x: usize, e: Entry) -> Option<Entry>
     requires sized { Sized n room (length queue.old) }
     requires lt_x { (1 < x) × (x < 2 * n) }
     requires e_value { e ≡ entry_at queue.old n room x }
@@ -103,16 +99,10 @@ fn refresh(queue: &mut [u32], n: usize, room: usize, x: usize, e: Entry) -> Take
     let first = first_entry(e, at(queue, n, room, beside(x)));
     let old = at(queue, n, room, x / 2);
     if (old.key == first.key) & (old.slot == first.slot) {
-        return Taken {
-            entry: first,
-            changed: false,
-        };
+        return None;
     }
     hold(queue, n, room, x / 2, first);
-    Taken {
-        entry: first,
-        changed: true,
-    }
+    Some(first)
 }
 
 // Changes the key of slot k.
@@ -129,20 +119,21 @@ pub(crate) fn set_key(queue: &mut [u32], n: usize, room: usize, k: usize, key: u
         slot: k as u32,
     };
     while 1 < x {
-        let above = refresh(queue, n, room, x, e);
-        if !above.changed {
+        let Some(above) = refresh(queue, n, room, x, e) else {
             return;
-        }
-        x = x / 2;
-        e = above.entry;
+        };
+        x /= 2;
+        e = above;
     }
 }
 
-// The pending slot with the least key, of several the least slot; its key is NONE where no slot is pending.
-pub(crate) fn first(queue: &[u32], n: usize, room: usize) -> Entry
+// The pending slot with the least key, of several the least slot; None where no slot is pending.
+#[tactic(auto, using(crate::proofs::Tournament::root_first))]
+pub(crate) fn first(queue: &[u32], n: usize, room: usize) -> Option<Entry>
     requires sized { Sized n room (length queue.now) }
     requires tree { Tree queue.now n room }
-    ensures { First queue.now n room result }
+    ensures { NextPending queue.now n room result }
 {
-    at(queue, n, room, 1)
+    let e = at(queue, n, room, 1);
+    if e.key == NONE { None } else { Some(e) }
 }

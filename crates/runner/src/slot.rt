@@ -98,11 +98,7 @@ pub(crate) fn clear_slot(table: &mut [u32], k: u32)
     ensures { table.new ≡ cleared_slot table.old k }
 {
     let b = layout::SLOT_WIDTH * (k as usize);
-    let mut j = 0;
-    while j < layout::SLOT_WIDTH {
-        table[b + j] = 0;
-        j += 1;
-    }
+    table[b..b + layout::SLOT_WIDTH].fill(0);
 }
 
 // The first pixel, plus one, of two lists one after the other: of count pixels from first, and from second.
@@ -121,8 +117,8 @@ impl Head {
         Head {
             first: 0,
             count: 0,
-            rect: BoundingRect::empty(),
-            sum: color::cleared(self.sum),
+            rect: BoundingRect::default(),
+            sum: ColorSum::default(),
         }
     }
 
@@ -136,7 +132,7 @@ impl Head {
             first: first_of(self.count, self.first, i + 1),
             count: self.count + 1,
             rect: self.rect.add_x_y(x, y),
-            sum: color::sum_with(self.sum, c),
+            sum: self.sum.plus(ColorSum::from(c)),
         }
     }
 
@@ -149,7 +145,7 @@ impl Head {
             first: first_of(self.count, self.first, other.first),
             count: self.count + other.count,
             rect: self.rect.merge(other.rect),
-            sum: color::sum_of_two(self.sum, other.sum),
+            sum: self.sum.plus(other.sum),
         }
     }
 }

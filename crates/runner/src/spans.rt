@@ -9,22 +9,24 @@ ghost use Rattle.color.specs.Colors.{sum_of};
 ghost use Rattle.runner.specs.Types.{config_of};
 ghost use Rattle.runner.specs.Code.Spans.{linked_from, CanAddSpan, AddedSpan, RowRest, FoundSpan, LimitsOf};
 ghost use Rattle.runner.specs.Code.Spans.{Fitting, ManyNear};
+ghost use Rattle.runner.specs.Code.Lists.{of_lists, SameLists};
 
 use super::bound::BoundingRect;
+use super::builder::Builder;
+use super::input::{Input, Pixel};
 use super::slot::Head;
 use super::{builder, keying, labelling, slot, stage1};
 use crate::RunnerConfig;
-use color::{ColorOrNone, ColorSum};
+use color::ColorSum;
 
 // Each of n pixels from i on is linked to the one after it.
+#[tactic(auto, unfolding(crate::specs::Code::Spans::linked_from))]
 fn chain_links(links: &mut [u32], i: u32, n: u32)
     requires { (i + n ≤ length links.old) × (i + n < count_bound) }
     ensures { links.new ≡ linked_from links.old i n }
 {
-    let mut j = 0;
-    while j < n {
-        links[(i + j) as usize] = i + j + 2;
-        j += 1;
+    for j in i..i + n {
+        links[j as usize] = j + 2;
     }
 }
 
@@ -33,75 +35,56 @@ fn sum_colors(image: &[u8], i: u32, n: u32) -> ColorSum
     requires { (4 * (i + n) ≤ length image.now) × (i + n < count_bound) }
     ensures { sum_of result ≡ sum_from image.now i n }
 {
-    let mut s = color::no_sum();
-    let mut j = 0;
-    while j < n {
-        s = color::sum_with(s, keying::color_at(image, i + j));
-        j += 1;
+    let mut s = ColorSum::default();
+    for j in i..i + n {
+        s = s.plus(ColorSum::from(keying::color_at(image, j)));
     }
     s
 }
 
-// n pixels from pixel i on, which is at column x and row y, are added to cluster k.
-pub(crate) fn add_span(
-    image: &[u8],
-    labels: &mut [u32],
-    links: &mut [u32],
-    table: &mut [u32],
-    ends: &mut [u32],
-    k: u32,
-    i: u32,
-    x: u32,
-    y: u32,
-    n: u32,
-)
-    requires { CanAddSpan image.now k i x y n labels.old links.old table.old ends.old }
-    ensures { AddedSpan image.now k i x y n
-        labels.old links.old table.old ends.old
-        labels.new links.new table.new ends.new }
+// n pixels from a pixel on are added to cluster k.
+pub(crate) fn add_span(b: &mut Builder, image: &[u8], k: u32, at: Pixel, n: u32)
+    requires { of_lists (CanAddSpan image.now k at.i at.x at.y n) b.old }
+    ensures loans { SameLists b.old b.new }
+    ensures added { of_lists (of_lists (AddedSpan image.now k at.i at.x at.y n) b.old) b.new }
 {
+    let links = &mut *b.links;
+    let table = &mut *b.table;
+    let ends = &mut *b.ends;
     let s = slot::load_head(table, k);
     let span = Head {
-        first: i + 1,
+        first: at.i + 1,
         count: n,
         rect: BoundingRect {
-            left: x,
-            top: y,
-            right: x + n,
-            bottom: y + 1,
+            left: at.x,
+            top: at.y,
+            right: at.x + n,
+            bottom: at.y + 1,
         },
-        sum: sum_colors(image, i, n),
+        sum: sum_colors(image, at.i, n),
     };
-    builder::link_after(links, s.count, ends[k as usize], i + 1);
-    chain_links(links, i, n - 1);
-    labelling::fill(labels, i, n, k);
-    ends[k as usize] = i + n;
+    builder::link_after(links, s.count, ends[k as usize], at.i + 1);
+    chain_links(links, at.i, n - 1);
+    labelling::fill(b.labels, at.i, n, k);
+    ends[k as usize] = at.i + n;
     slot::save_head(table, k, s.with_cluster(span));
 }
 
 // Whether pixel i, behind the first column and the first row, extends cluster k.
-fn extends(
-    image: &[u8],
-    labels: &[u32],
-    o: RunnerConfig,
-    shift: u32,
-    w: u32,
-    i: u32,
-    k: u32,
-) -> bool
-    requires { (w + 1 ≤ i) × (i < length labels.now) × (4 * i + 4 ≤ length image.now) }
-    ensures { result ≡ true → (config_of o).is_same_color_a ≡ pos shift
-        → Extends (config_of o) w image.now labels.now k i }
+fn extends(input: Input, labels: &[u32], i: u32, k: u32) -> bool
+    requires { (input.w + 1 ≤ i) × (i < length labels.now) × (4 * i + 4 ≤ length input.image.now) }
+    ensures { result ≡ true → Extends (config_of input.entry.o) input.entry.w input.entry.image.now labels.now k i }
 {
-    if labels[(i - w) as usize] != k {
+    let image = input.image;
+    if labels[(i - input.w) as usize] != k {
         return false;
     }
-    let c = ColorOrNone::Some(keying::color_at(image, i));
-    let up = ColorOrNone::Some(keying::color_at(image, i - w));
-    if stage1::is_same(o, shift, c, up) {
-        let up_left = ColorOrNone::Some(keying::color_at(image, i - w - 1));
-        if stage1::is_same(o, shift, c, up_left) {
-            return !keying::is_key(image, o, i);
+    let c = Some(keying::color_at(image, i));
+    let up = Some(keying::color_at(image, i - input.w));
+    if stage1::is_same(input, c, up) {
+        let up_left = Some(keying::color_at(image, i - input.w - 1));
+        if stage1::is_same(input, c, up_left) {
+            return !keying::is_key(image, input.o, i);
         }
     }
     false
@@ -111,13 +94,7 @@ fn extends(
 fn bound_of(t: i32) -> u8
     ensures { (n : ℕ) → t ≡ pos n → result ≤ n }
 {
-    if t < 0 {
-        return 0;
-    }
-    if 255 < t {
-        return 255;
-    }
-    t as u8
+    t.clamp(0, 255) as u8
 }
 
 // The same for each byte of four pixels; alpha may be anything.
@@ -132,7 +109,7 @@ pub(crate) fn limits_of(o: RunnerConfig) -> [u8; 16]
 fn far(x: u8, y: u8, limit: u8) -> u8
     ensures { (result ≤ 1) × (result ≡ 0 → apart x y ≤ limit) }
 {
-    if limit < color::distance(x, y) { 1 } else { 0 }
+    u8::from(limit < color::distance(x, y))
 }
 
 // How many bytes of the four pixels from a on, shifted, are further than their limit from those of the four from b on,
@@ -144,12 +121,10 @@ fn four_far(image: &[u8], a: u32, b: u32, shift: u32, limits: &[u8; 16]) -> u8
     let p = 4 * (a as usize);
     let q = 4 * (b as usize);
     let mut n: u8 = 0;
-    let mut j = 0;
-    while j < 16 {
+    for j in 0..16 {
         let x = image[p + j] >> shift;
         let d = limits[j];
-        n = n + far(x, image[q + j] >> shift, d) + far(x, image[q + j - 4] >> shift, d);
-        j += 1;
+        n += far(x, image[q + j] >> shift, d) + far(x, image[q + j - 4] >> shift, d);
     }
     n
 }
@@ -176,90 +151,59 @@ fn four_free(image: &[u8], o: RunnerConfig, i: u32) -> bool
 }
 
 // Whether the four pixels from i on, behind the first column and the first row, extend cluster k.
-fn four_extend(
-    image: &[u8],
-    labels: &[u32],
-    o: RunnerConfig,
-    shift: u32,
-    limits: &[u8; 16],
-    w: u32,
-    i: u32,
-    k: u32,
-) -> bool
-    requires w_bound { (w + 1 ≤ i) × (i + 4 ≤ length labels.now) × (4 * i + 16 ≤ length image.now) }
-    requires i_lt_count_bound { (i < count_bound) × (shift < 8) }
-    ensures { result ≡ true → Fitting (config_of o) shift limits.now
-        → AllExtend (config_of o) w image.now labels.now k i 4 }
+fn four_extend(input: Input, labels: &[u32], limits: &[u8; 16], i: u32, k: u32) -> bool
+    requires w_bound { (input.w + 1 ≤ i) × (i + 4 ≤ length labels.now) × (4 * i + 16 ≤ length input.image.now) }
+    requires i_lt_count_bound { i < count_bound }
+    ensures { result ≡ true → Fitting (config_of input.entry.o) input.entry.shift limits.now
+        → AllExtend (config_of input.entry.o) input.entry.w input.entry.image.now labels.now k i 4 }
 {
-    if !four_in_cluster(labels, i - w, k) {
+    if !four_in_cluster(labels, i - input.w, k) {
         return false;
     }
-    if four_far(image, i, i - w, shift, limits) != 0 {
+    if four_far(input.image, i, i - input.w, input.shift, limits) != 0 {
         return false;
     }
-    four_free(image, o, i)
+    four_free(input.image, input.o, i)
 }
 
 // How many pixels from i on, of `room`, extend cluster k, as far as they do so by fours.
-fn fours(
-    image: &[u8],
-    labels: &[u32],
-    o: RunnerConfig,
-    shift: u32,
-    limits: &[u8; 16],
-    w: u32,
-    i: u32,
-    k: u32,
-    room: u32,
-) -> u32
-    requires w_bound { (w + 1 ≤ i) × (i + room ≤ length labels.now) × (4 * (i + room) ≤ length image.now) }
-    requires room_bound { (i + room < count_bound) × (shift < 8) }
-    ensures { (result ≤ room) × (Fitting (config_of o) shift limits.now
-        → AllExtend (config_of o) w image.now labels.now k i result) }
+fn fours(input: Input, labels: &[u32], limits: &[u8; 16], i: u32, k: u32, room: u32) -> u32
+    requires w_bound { (input.w + 1 ≤ i) × (i + room ≤ length labels.now)
+        × (4 * (i + room) ≤ length input.image.now) }
+    requires room_bound { i + room < count_bound }
+    ensures { (result ≤ room) × (Fitting (config_of input.entry.o) input.entry.shift limits.now
+        → AllExtend (config_of input.entry.o) input.entry.w input.entry.image.now labels.now k i result) }
 {
-    let mut n = 0;
-    while n + 4 <= room {
-        if !four_extend(image, labels, o, shift, limits, w, i + n, k) {
+    for four in 0..room / 4 {
+        let n = 4 * four;
+        if !four_extend(input, labels, limits, i + n, k) {
             return n;
         }
-        n += 4;
     }
-    n
+    4 * (room / 4)
 }
 
-// How many pixels from pixel i on, at column x and row y, extend the cluster of the pixel to the left of i.
-pub(crate) fn span_length(
-    image: &[u8],
-    labels: &[u32],
-    o: RunnerConfig,
-    shift: u32,
-    limits: &[u8; 16],
-    w: u32,
-    i: u32,
-    x: u32,
-    y: u32,
-) -> u32
-    requires row_rest { RowRest w i x y image.now labels.now }
-    requires shift_bound { shift < 8 }
-    requires limits_of { LimitsOf (config_of o) limits.now }
-    ensures { FoundSpan (config_of o) shift w image.now labels.now i x y result }
+// How many pixels from a pixel on extend the cluster of the pixel to its left.
+pub(crate) fn span_length(input: Input, b: &Builder, limits: &[u8; 16], at: Pixel) -> u32
+    requires row_rest { RowRest input.w at.i at.x at.y input.image.now b.now.labels.now }
+    requires limits_of { LimitsOf (config_of input.o) limits.now }
+    ensures { FoundSpan (config_of input.entry.o) input.entry.shift input.entry.w input.entry.image.now b.now.labels.now
+        at.i at.x at.y result }
 {
-    if x == 0 {
+    if at.x == 0 || at.y == 0 {
         return 0;
     }
-    if y == 0 {
-        return 0;
-    }
+    let i = at.i;
+    let labels = &*b.labels;
     let k = labels[(i - 1) as usize];
-    if !extends(image, labels, o, shift, w, i, k) {
+    if !extends(input, labels, i, k) {
         return 0;
     }
-    let mut n = 1 + fours(image, labels, o, shift, limits, w, i + 1, k, w - x - 1);
-    while n < w - x {
-        if !extends(image, labels, o, shift, w, i + n, k) {
+    let room = input.w - at.x;
+    for n in 1 + fours(input, labels, limits, i + 1, k, room - 1)..room {
+        if !extends(input, labels, i + n, k) {
             return n;
         }
-        n += 1;
     }
-    n
+    room
 }

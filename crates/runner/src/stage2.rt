@@ -12,11 +12,13 @@ ghost use Rattle.runner.specs.Types.{config_of};
 ghost use Rattle.runner.specs.Code.Queue.{queue_key};
 ghost use Rattle.runner.specs.Code.Stage2.{Prepared, PreparedSlot, patch_good_at, deepens_at, CanPut, Put, goes_out};
 ghost use Rattle.runner.specs.Code.Stage2.{CanGrow};
+ghost use Rattle.runner.specs.Code.Ops.{CanMerge, Merged, CanDeepen, Deepened};
 ghost use Rattle.runner.specs.Code.Stage2.{Grown, Between, Chosen, Visiting, Aimed, Deepening, Visited, Entered};
 ghost use Rattle.runner.specs.Code.Stage2.{CanStage2, Staged};
 
+use super::builder::Builder;
 use super::cluster::Nearest;
-use super::{bound, builder, cluster, geometry, keying, queue, slot};
+use super::{builder, cluster, geometry, keying, queue, slot};
 use crate::{HIERARCHICAL_MAX, RunnerConfig};
 
 // What stage 2 carries from turn to turn: slots, outputs, turns made, and the largest pixel count.
@@ -33,11 +35,9 @@ fn prepare_stage_2(table: &mut [u32], queue: &mut [u32], n: u32) -> u32
     requires { (slot_width * n ≤ length table.old) × (n ≤ length queue.old) × (n ≤ count_bound) }
     ensures { Prepared n table.old queue.old table.new queue.new result }
 {
-    let mut k = 0;
     let mut largest = 0;
-    while k < n {
+    for k in 0..n {
         largest = prepare_slot(table, queue, k, largest);
-        k += 1;
     }
     largest
 }
@@ -51,7 +51,7 @@ fn prepare_slot(table: &mut [u32], queue: &mut [u32], k: u32, largest: u32) -> u
     let s = slot::load_head(table, k);
     slot::save_residue(table, k, s.sum);
     queue[k as usize] = key_of(s.count);
-    bound::max(largest, s.count)
+    largest.max(s.count)
 }
 
 // The key of a slot of so many pixels.
@@ -66,7 +66,7 @@ fn exceeds(d: u32, z: i32) -> bool
     requires { d < 2147483648 }
     ensures { result ≡ Rattle.rules.specs.Color.exceeds d z }
 {
-    !((d as i32) <= z)
+    z < d as i32
 }
 
 // Whether cluster k, of so many pixels from first, may stay a patch, after `patch_good` of runner.rs: a boundary
@@ -157,8 +157,52 @@ fn grown(table: &[u32], work: &mut [u32], room: usize, t: Turns, to: u32) -> Tur
         n: t.n,
         m: t.m,
         turns: t.turns,
-        largest: bound::max(t.largest, count),
+        largest: t.largest.max(count),
     }
+}
+
+// A plain merge of f into t, over lists that are lent one by one.
+fn merge_cluster_into(
+    labels: &mut [u32],
+    links: &mut [u32],
+    table: &mut [u32],
+    ends: &mut [u32],
+    f: u32,
+    t: u32,
+)
+    requires { CanMerge f t labels.old links.old table.old ends.old }
+    ensures { Merged f t labels.old links.old table.old ends.old
+        labels.new links.new table.new ends.new }
+{
+    let mut b = Builder {
+        labels,
+        links,
+        table,
+        ends,
+    };
+    b.merge_cluster_into(f, t);
+}
+
+// A deepening one.
+fn deepen_cluster_into(
+    labels: &mut [u32],
+    links: &mut [u32],
+    table: &mut [u32],
+    ends: &mut [u32],
+    f: u32,
+    t: u32,
+)
+    requires { CanDeepen f t labels.old links.old table.old ends.old }
+    ensures { Deepened f t labels.old links.old table.old ends.old
+        labels.new links.new table.new ends.new }
+{
+    let mut b = Builder {
+        labels,
+        links,
+        table,
+        ends,
+    };
+    b.deepen_cluster_into(f, t);
 }
 
 // A deepening merge of k into the nearest neighbour.
@@ -184,7 +228,7 @@ fn deepen_into_nearest(
     let r = room as usize;
     let to = near.target;
     let put = put_out(work, r, t, k);
-    builder::deepen_cluster_into(labels, links, table, &mut work[3 * r..5 * r], k, to);
+    deepen_cluster_into(labels, links, table, &mut work[3 * r..5 * r], k, to);
     if near.count <= o.hollow_neighbours {
         builder::append_hole(table, &mut work[3 * r..5 * r], room, k, to);
         return grown(table, work, r, put, to);
@@ -227,7 +271,7 @@ fn merge_into_nearest(
         return deepen_into_nearest(labels, links, table, work, o, room, t, k, near);
     }
     let to = near.target;
-    builder::merge_cluster_into(labels, links, table, &mut work[3 * r..5 * r], k, to);
+    merge_cluster_into(labels, links, table, &mut work[3 * r..5 * r], k, to);
     grown(table, work, r, t, to)
 }
 
@@ -367,13 +411,10 @@ pub(crate) fn stage_2(
         turns: 0,
         largest,
     };
-    loop {
-        let e = queue::first(&work[0..3 * r], t.n as usize, r);
-        if e.key == queue::NONE {
-            return t;
-        }
+    while let Some(e) = queue::first(&work[0..3 * r], t.n as usize, r) {
         t = turn(
             image, labels, links, table, work, o, w, h, room, t, e.slot, e.key,
         );
     }
+    t
 }

@@ -6,8 +6,8 @@ use Rattle.rules.specs.Color.{color_same}
 use Rattle.color.proofs.Laws.{at-most, like-equal}
 use Rattle.color.proofs.color_same.Goals as goal
 
-pub returns-then-equal : goal.returns-then-equal
-returns-then-equal c = at-most (lit< tt) c.ranges.thres ∙ sym (like-equal _ _ _ _ (sym c.equal.ensures ∙ c.if-equal.true))
+pub returns-then-eq : goal.returns-then-eq
+returns-then-eq c = at-most (lit< tt) c.ranges.thres ∙ sym (like-equal _ _ _ _ (sym c.eq.ensures ∙ c.if-eq.true))
 
 pub returns : goal.returns
 unfolding color_same

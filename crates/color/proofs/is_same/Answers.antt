@@ -14,12 +14,12 @@ none-like s t none = refl
 none-like s t (some x) = refl
 
 pub returns-in_default : goal.returns-in_default
-returns-in_default c = rw c.in_default.is (sym (none-like _ _ _))
-
-pub returns-in_default-b : goal.returns-in_default-b
 unfolding is_same
-returns-in_default-b c = rw (c.in-Some.is, c.in_default-b.is)
+returns-in_default c = rw (c.in_default.is-0, c.in_default.is-1)
+
+pub returns-in_default-2 : goal.returns-in_default-2
+returns-in_default-2 c = rw c.in_default.is-0 (sym (none-like _ _ _))
 
 pub returns : goal.returns
 unfolding is_same
-returns c = rw (c.in-Some.is, c.in-Some-b.is) (cc (to_z-of_z w32 _ c.ranges.thres))
+returns c = rw (c.in-Some-Some.is-0, c.in-Some-Some.is-1) (cc (to_z-of_z w32 _ c.ranges.thres))

@@ -1,8 +1,8 @@
 -- What the quick checks of painting show.
-use Rattle.std.specs.Prelude.{List, ℕ, ◌+◌, ◌*◌, ◌≤◌, ◌<◌, T, length, get_or}
+use Rattle.std.specs.Prelude.{List, ℕ, ◌≤◌, ◌<◌, T, get_or}
 use Rattle.rules.specs.Color.{has_average}
 use Rattle.rules.specs.Paint.{reads, slot_number, slot_residue}
-use Rattle.rules.specs.Layout.{slot_width, first_pixel_place, pixel_count_place}
+use Rattle.rules.specs.Layout.{first_pixel_place, pixel_count_place}
 use Rattle.container.specs.declared.quick.Lane.{Lane}
 use Rattle.container.specs.declared.quick.Lanes.{Lanes}
 
@@ -19,11 +19,6 @@ ListPasses size links table k =
 -- the lists of the entries left, .. m - 1 can be read
 abbrev pub PassFrom : ℕ → List ℕ → List ℕ → List ℕ → ℕ → ℕ → Type 0
 PassFrom size links table outputs m left = (i : ℕ) → left ≤ i → i < m → ListPasses size links table (get_or outputs i 0)
-
--- the first m entries lie in outputs, and their slots in the table
-pub record EntriesFit (table outputs : List ℕ) (m : ℕ) : Type 0 where
-  pub within : m ≤ length outputs
-  pub slots : (i : ℕ) → i < m → slot_width * get_or outputs i 0 + slot_width ≤ length table
 
 -- The first `left` entries were not taken before. If the rest that lane y holds can be read, so can the l pixels from a
 -- that it held, and the lists of the entries that were taken since.

@@ -16,22 +16,7 @@ use Rattle.runner.specs.declared.stage1.Into.{Into}
 use Rattle.runner.specs.declared.stage1.Into.TheVariants.{Nowhere, Zero, Up, Left, Fresh}
 use Rattle.runner.specs.Code.Slots.{cleared_slot}
 use Rattle.runner.specs.Code.Rep.{Rep}
-
--- an image of w columns and h rows, with the shift of the settings as a number
-pub record Given (o : RunnerConfig) (w h : ℕ) (image : List ℕ) (shift : ℕ) : Type 0 where
-  pub shifted : o.is_same_color_a ≡ pos shift
-  pub narrow : shift < 8
-  pub bytes : (p : ℕ) → get_or image p 0 ≤ 255
-  pub whole : length image ≡ 4 * (w * h)
-  pub columns : 0 < w
-  pub rows : 0 < h
-  pub small : w * h ≤ capacity
-
--- pixel i is at column x, row y
-pub record Spot (w h i x y : ℕ) : Type 0 where
-  pub index : i ≡ w * y + x
-  pub column : x < w
-  pub row : y < h
+use Rattle.runner.specs.Code.Given.{Given, Spot}
 
 -- what is seen from pixel i of an image of w columns
 pub record SeenAt (w : ℕ) (image : List ℕ) (i : ℕ) (p : Seen) : Type 0 where

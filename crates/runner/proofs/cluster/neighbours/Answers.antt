@@ -19,7 +19,7 @@ use Rattle.rules.proofs.Walks.{Step, step, walk_none}
 use Rattle.runner.proofs.Nearest.{each-length, each-count, each_holds}
 use Rattle.runner.proofs.cluster.neighbours.Invariants.{Going}
 use Rattle.runner.proofs.cluster.neighbours.Goals as goal
-use Rattle.runner.proofs.cluster.neighbours.Goals.{In-loop-left}
+use Rattle.runner.proofs.cluster.neighbours.Goals.{In-loop}
 
 module _ (labels links table marks : List ℕ) (w h k visit : ℕ) (S : Scannable labels links table marks w h k visit) where
   begins : Going labels links table marks w h k visit (record { marks = marks; nearest = nearest_of (diff_at table k) [] }) (get_or table (slot_width * k + first_pixel_place) 0) (get_or table (slot_width * k + pixel_count_place) 0)
@@ -83,51 +83,27 @@ module _ (labels links table marks : List ℕ) (w h k visit : ℕ) (S : Scannabl
   }
 
 -- the pixel of a turn
-here : (c : In-loop-left) → let a = c.args in Step (a.w * a.h) a.links.now c.loop-left.at c.loop-left.left
-here c = step _ _ _ _ c.loop-left-test.true c.loop-left.invariant.readable
-
-pub color-mine-requires : goal.color-mine-requires
-color-mine-requires c = c.requires.own
-
-pub bounds-table-b : goal.bounds-table-b
-bounds-table-b c = omega (arith, c.requires.own.inside)
-
-pub bounds-table-b-2 : goal.bounds-table-b-2
-bounds-table-b-2 c = omega (arith, c.requires.own.inside)
-
-pub loop-left-init : goal.loop-left-init
-loop-left-init c = begins _ _ _ _ _ _ _ _ c.requires
+here : (c : In-loop) → let a = c.args in Step (a.w * a.h) a.links.now c.loop.at (get_or a.table.now (slot_width * a.k + pixel_count_place) 0 - c.loop.counter)
+here c = step _ _ _ _ (omega arith) c.loop.invariant.readable
 
 pub overflow_sub-p : goal.overflow_sub-p
-overflow_sub-p c = (here (goal.at.overflow_sub-p c).In-loop-left).some
+overflow_sub-p c = (here (goal.at.overflow_sub-p c).In-loop).some
 
 pub look-found-requires : goal.look-found-requires
 look-found-requires c =
     let S = c.requires in
-    let at = here (goal.at.look-found-requires c).In-loop-left in
-    let a = asks _ _ _ _ _ _ _ _ S _ _ _ _ c.loop-left-test.true refl c.loop-left.invariant in
+    let at = here (goal.at.look-found-requires c).In-loop in
+    let a = asks _ _ _ _ _ _ _ _ S _ _ _ _ (omega arith) refl c.loop.invariant in
     record { w_nonzero = (S.width, omega (arith, at.some, at.within), S.labelled, S.small); by_index = a.0; count_bound = a.1 }
 
-pub overflow_cast-at : goal.overflow_cast-at
-overflow_cast-at c = omega (arith, (here (goal.at.overflow_cast-at c).In-loop-left).within, c.requires.small)
-
-pub offset_bounds-links-p : goal.offset_bounds-links-p
-offset_bounds-links-p c = omega (arith, (here (goal.at.offset_bounds-links-p c).In-loop-left).within, c.requires.small)
-
 pub bounds-links-p : goal.bounds-links-p
-bounds-links-p c = omega (arith, (here (goal.at.bounds-links-p c).In-loop-left).some, (here (goal.at.bounds-links-p c).In-loop-left).within, c.requires.linked)
+bounds-links-p c = omega (arith, (here (goal.at.bounds-links-p c).In-loop).some, (here (goal.at.bounds-links-p c).In-loop).within, c.requires.linked)
 
-pub overflow_sub-left : goal.overflow_sub-left
-overflow_sub-left c = c.loop-left-test.true
-
-pub loop-left-smaller : goal.loop-left-smaller
-loop-left-smaller c = omega (arith, c.loop-left-test.true)
-
-pub loop-left-preserved : goal.loop-left-preserved
-loop-left-preserved c = turn _ _ _ _ _ _ _ _ c.requires _ _ _ _ _ _ c.loop-left-test.true refl c.color-mine.ensures c.look-found.ensures c.loop-left.invariant
-
-pub shape_of-marks : goal.shape_of-marks
-shape_of-marks c = c.loop-left.invariant.kept
+pub loop-preserved : goal.loop-preserved
+loop-preserved c =
+    let count = get_or c.args.table.now (slot_width * c.args.k + pixel_count_place) 0 in
+    let e : count - (c.loop.counter + 1) ≡ count - c.loop.counter - 1 = omega arith in
+    rw e (turn _ _ _ _ _ _ _ _ c.requires _ _ _ _ _ _ (omega arith) refl c.color-mine.ensures c.look-found.ensures c.loop.invariant)
 
 pub returns : goal.returns
-returns c = ends _ _ _ _ _ _ _ _ c.requires _ _ _ c.loop-left-test.false c.loop-left.invariant
+returns c = ends _ _ _ _ _ _ _ _ c.requires _ _ _ (omega arith) c.loop.invariant

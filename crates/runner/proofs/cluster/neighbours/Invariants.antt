@@ -1,6 +1,6 @@
 use mathlib.Core.Path.{◌≡◌}
 use mathlib.Core.List.{List, []}
-use Prim.Native.Nat.{ℕ, ◌+◌, ◌*◌, ◌≤◌}
+use Prim.Native.Nat.{ℕ, ◌+◌, ◌-◌, ◌*◌, ◌≤◌}
 use lib.Dec.{T}
 use lib.ListN.{length, get_or}
 use Rattle.rules.specs.Layout.{walk}
@@ -19,8 +19,5 @@ pub record Going (labels links table marks : List ℕ) (w h k visit : ℕ) (s : 
   pub holds : Holds (diff_at table k) visit s found
   pub rest : labels_around w h labels k (walk (λ p. get_or links p 0) at left) found ≡ labels_around w h labels k (list_at links table k) []
 
-abbrev pub invariant-loop-left : goal.invariant-loop-left
-invariant-loop-left l = Going l.labels l.links l.table l.initial.marks l.w l.h l.k l.visit (record { marks = l.marks; nearest = l.found }) l.at l.left
-
-abbrev pub decreases-loop-left : goal.decreases-loop-left
-decreases-loop-left l = l.left
+abbrev pub invariant-loop : goal.invariant-loop
+invariant-loop l = Going l.labels l.links l.table l.initial.marks l.w l.h l.k l.visit (record { marks = l.marks; nearest = l.found }) l.at (l.count - l.counter)

@@ -1,7 +1,4 @@
-use mathlib.Core.Path.{◌≡◌}
-use Prim.Native.Nat.{◌*◌}
-use lib.Dec.{T}
-use lib.ListN.{get_or}
+use Rattle.std.proofs.Common.{◌≡◌, ◌*◌, ◌-◌, T, get_or}
 use Rattle.rules.specs.Layout.{walk}
 use Rattle.rules.specs.Paint.{reads}
 use Rattle.runner.specs.Types.{config_of}
@@ -9,9 +6,6 @@ use Rattle.runner.specs.Code.Interior.{some_inside}
 use Rattle.runner.proofs.geometry.has_interior.Given as goal
 
 -- what is left of the chain gives what is wanted
-abbrev pub invariant-loop-left : goal.invariant-loop-left
-invariant-loop-left l = T (reads (l.w * l.h) l.links l.at l.left)
-    × (some_inside (config_of l.o) l.image l.labels l.w l.h l.k (walk (λ p. get_or l.links p 0) l.at l.left) ≡ some_inside (config_of l.o) l.image l.labels l.w l.h l.k (walk (λ p. get_or l.links p 0) l.first l.count))
-
-abbrev pub decreases-loop-left : goal.decreases-loop-left
-decreases-loop-left l = l.left
+abbrev pub invariant-loop : goal.invariant-loop
+invariant-loop l = T (reads (l.w * l.h) l.links l.at (l.count - l.counter))
+    × (some_inside (config_of l.o) l.image l.labels l.w l.h l.k (walk (λ p. get_or l.links p 0) l.at (l.count - l.counter)) ≡ some_inside (config_of l.o) l.image l.labels l.w l.h l.k (walk (λ p. get_or l.links p 0) l.first l.count))

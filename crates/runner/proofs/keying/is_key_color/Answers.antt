@@ -8,4 +8,4 @@ use Rattle.runner.proofs.keying.is_key_color.Goals as goal
 pub returns : goal.returns
 unfolding is_key
 returns c image i e = let key = c.args.o.key_color in
-    ap₂ ◌&&◌ c.keying_on.ensures (c.equal.ensures ∙ ap (λ x. equal_color x (color_of key)) e)
+    ap₂ ◌&&◌ c.keying_on.ensures (c.eq.ensures ∙ ap (λ x. equal_color x (color_of key)) e)

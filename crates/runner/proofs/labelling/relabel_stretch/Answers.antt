@@ -7,14 +7,14 @@ use Rattle.runner.proofs.labelling.relabel_stretch.Goals as goal
 use Rattle.runner.proofs.labelling.relabel_stretch.Goals.{After-shared_slice_known-1, After-stretch-n}
 
 -- the first pixel of the list
-first : (c : After-shared_slice_known-1) → (let a = c.args in (1 ≤ a.at) × (a.at ≤ length a.labels.now) × (a.at ≤ length a.links.now) × (a.at < count_bound))
+first : (c : After-shared_slice_known-1) → (let a = c.args in (1 ≤ a.rest.at) × (a.rest.at ≤ length a.labels.now) × (a.rest.at ≤ length a.links.now) × (a.rest.at < count_bound))
 first c =
     let C = c.requires.can_relabel in
     let s = next-step C c.requires.left_nonzero in
     (s.some, s.within, omega (arith, s.within, C.links), omega (arith, s.within, C.small))
 
 -- the last pixel of the stretch
-last : (c : After-stretch-n) → (let a = c.args in a.at - 1 + c.stretch-n.result < length a.labels.now)
+last : (c : After-stretch-n) → (let a = c.args in a.rest.at - 1 + c.stretch-n.result < length a.labels.now)
 last c = stretch-in c.requires.can_relabel c.stretch-n.result c.stretch-n.ensures.0 c.stretch-n.ensures.1
 
 pub fill-requires : goal.fill-requires

@@ -1,16 +1,14 @@
-use Prim.Native.Nat.{◌+◌, ◌-◌, ◌≤◌, ◌<◌}
-use native.Mathlib.Omega.{arith}
-use lib.ListN.{length}
+use Rattle.std.proofs.Common.{◌+◌, ◌-◌, ◌≤◌, ◌<◌, length, arith}
 use Rattle.runner.proofs.Labels.{next-step, stretch-in}
 use Rattle.runner.proofs.labelling.stretch.Goals as goal
 use Rattle.runner.proofs.labelling.stretch.Goals.{In-loop-n}
 
 -- the pixel whose link is read
-within : (c : In-loop-n) → (let a = c.args in (1 ≤ a.at) × (a.at - 1 + c.loop-n.n < length a.links.now) × (a.at + c.loop-n.n < 2000001))
+within : (c : In-loop-n) → (let a = c.args in (1 ≤ a.rest.at) × (a.rest.at - 1 + c.loop-n.n < length a.links.now) × (a.rest.at + c.loop-n.n < 2000001))
 within c =
     let C = c.requires.by_index.1 in
     let s = (next-step C c.requires.left_nonzero).some in
-    let w = stretch-in C _ c.loop-n.invariant.0 c.loop-n.invariant.1 in
+    let w = stretch-in C c.loop-n.n (omega arith) c.loop-n.invariant in
     (s, omega (arith, w, C.links), omega (arith, s, w, C.small))
 
 pub bounds-links-at : goal.bounds-links-at

@@ -1,27 +1,26 @@
-use Prim.Native.Nat.{◌≤◌, ◌<◌}
-use native.Mathlib.Omega.{arith}
-use lib.ListN.{length}
-use Rattle.runner.proofs.Counted.{done_none, done_more, done-few, done-length}
+use Rattle.std.proofs.Common.{◌≤◌, ◌<◌, length, arith}
+use Rattle.std.proofs.lemmas.List.{get_or-take, length-take-le}
+use Rattle.runner.proofs.Counted.{done_none, done_more, done-few}
 use Rattle.runner.proofs.outputs.drop_empty.Goals as goal
-use Rattle.runner.proofs.outputs.drop_empty.Goals.{In-loop-i}
+use Rattle.runner.proofs.outputs.drop_empty.Goals.{In-loop-k}
 
 -- in a turn: an entry is left, and no more are kept than are done
-room : (c : In-loop-i) → (let a = c.args in (c.loop-i.i < length a.staged.now) × (c.loop-i.kept < length a.outputs.now) × (c.loop-i.kept ≤ c.loop-i.i))
-room c = let l = c.loop-i in
-    let f = done-few c.args.staged.now l.i (omega (arith, l.invariant.0, c.requires.m_in_bounds)) l.invariant.1 in
-    (omega (arith, c.loop-i-test.true, c.requires.m_in_bounds), omega (arith, c.loop-i-test.true, f, c.requires.m_in_bounds), f)
+room : (c : In-loop-k) → (let a = c.args in (c.loop-k.k-index < a.m) × (c.loop-k.kept < length a.outputs.now) × (c.loop-k.kept ≤ c.loop-k.k-index))
+room c =
+    let l = c.loop-k in
+    let i : l.k-index < c.args.m = omega (arith, length-take-le c.args.m c.args.staged.now c.requires.m_in_bounds.0) in
+    let f = done-few c.args.staged.now l.k-index (omega (arith, c.requires.m_in_bounds)) l.invariant in
+    (i, omega (arith, f, c.requires.m_in_bounds), f)
 
-pub loop-i-init : goal.loop-i-init
-loop-i-init c = (omega arith, done_none _ _)
+pub loop-k-init : goal.loop-k-init
+loop-k-init c = done_none _ _
 
 pub keep_entry-kept-requires : goal.keep_entry-kept-requires
-keep_entry-kept-requires c = let l = c.loop-i in
-    let r = room (goal.at.keep_entry-kept-requires c).In-loop-i in (
-      c.requires.by_index l.i c.loop-i-test.true,
-      omega (arith, r.1, done-length c.args.staged.now l.i (omega (arith, l.invariant.0, c.requires.m_in_bounds)) (omega (arith, l.invariant.0, c.requires.m_in_bounds)) l.invariant.1),
-      omega (arith, r.2, c.loop-i-test.true, c.ranges.m),
-    )
+keep_entry-kept-requires c =
+    let r = room (goal.at.keep_entry-kept-requires c).In-loop-k in
+    (rw (get_or-take c.args.m c.args.staged.now c.loop-k.k-index 0 r.0) (c.requires.by_index c.loop-k.k-index r.0), omega (arith, r.1), omega (arith, r.0, r.2, c.ranges.m))
 
-pub loop-i-preserved : goal.loop-i-preserved
-loop-i-preserved c = let l = c.loop-i in
-    (omega (arith, c.loop-i-test.true), done_more c.args.staged.now l.i (room (goal.at.loop-i-preserved c).In-loop-i).0 (room (goal.at.loop-i-preserved c).In-loop-i).1 l.invariant.1 c.keep_entry-kept.ensures)
+pub loop-k-preserved : goal.loop-k-preserved
+loop-k-preserved c =
+    let r = room (goal.at.loop-k-preserved c).In-loop-k in
+    done_more c.args.staged.now c.loop-k.k-index (omega (arith, r.0, c.requires.m_in_bounds)) r.1 c.loop-k.invariant (rw (get_or-take c.args.m c.args.staged.now c.loop-k.k-index 0 r.0) at c.keep_entry-kept.ensures)

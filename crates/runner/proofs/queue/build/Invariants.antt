@@ -4,6 +4,3 @@ use Rattle.runner.proofs.queue.build.Given as goal
 -- Every node from j on holds the first of its children.
 abbrev pub invariant-loop-j : goal.invariant-loop-j
 invariant-loop-j l = Building l.initial.queue l.queue l.n l.room l.j
-
-abbrev pub decreases-loop-j : goal.decreases-loop-j
-decreases-loop-j l = l.j

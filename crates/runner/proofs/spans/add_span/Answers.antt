@@ -43,7 +43,7 @@ module _ {image : List ℕ} {k i x y n : ℕ} {L K B E : List ℕ} {s : Head} (l
     ends = refl;
   }
 
-pub returns : goal.returns
+pub returns-clause-added : goal.returns-clause-added
 unfolding span_rect
-returns c = added c.load_head-s.ensures c.requires c.fill.ensures c.link_after.ensures c.chain_links.ensures
+returns-clause-added c = added c.load_head-s.ensures c.requires c.fill.ensures c.link_after.ensures c.chain_links.ensures
     (span_head _ _ _ _ _ _ c.requires.some refl refl refl c.sum_colors.ensures) c.with_cluster.ensures c.save_head.ensures

@@ -1,10 +1,6 @@
-use mathlib.Core.Path.{◌≡◌}
-use Prim.Native.Nat.{◌-◌, ◌*◌, ◌≤◌}
+use Rattle.std.proofs.Common.{◌≡◌, ◌*◌, ◌≤◌}
 use Rattle.runner.specs.Code.Spans.{ManyNear}
 use Rattle.runner.proofs.spans.four_far.Given as goal
 
 abbrev pub invariant-loop-j : goal.invariant-loop-j
-invariant-loop-j l = (l.j ≤ 16) × (l.n ≤ 2 * l.j) × (l.n ≡ 0 → ManyNear l.shift l.limits l.image l.a l.b l.j)
-
-abbrev pub decreases-loop-j : goal.decreases-loop-j
-decreases-loop-j l = 16 - l.j
+invariant-loop-j l = (l.n ≤ 2 * l.j) × (l.n ≡ 0 → ManyNear l.shift l.limits l.image l.a l.b l.j)

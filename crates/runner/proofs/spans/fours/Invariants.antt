@@ -1,11 +1,8 @@
-use Prim.Native.Nat.{◌-◌, ◌≤◌}
+use Rattle.std.proofs.Common.{◌*◌}
 use Rattle.rules.specs.Code.Spans.{AllExtend}
 use Rattle.runner.specs.Types.{config_of}
 use Rattle.runner.specs.Code.Spans.{Fitting}
 use Rattle.runner.proofs.spans.fours.Given as goal
 
-abbrev pub invariant-loop-n : goal.invariant-loop-n
-invariant-loop-n l = (l.n ≤ l.room) × (Fitting (config_of l.o) l.shift l.limits → AllExtend (config_of l.o) l.w l.image l.labels l.k l.i l.n)
-
-abbrev pub decreases-loop-n : goal.decreases-loop-n
-decreases-loop-n l = l.room - l.n
+abbrev pub invariant-loop-four : goal.invariant-loop-four
+invariant-loop-four l = Fitting (config_of l.input.o) l.input.shift l.limits → AllExtend (config_of l.input.o) l.input.w l.input.image.now l.labels l.k l.i (4 * l.four)

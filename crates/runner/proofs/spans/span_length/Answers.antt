@@ -9,10 +9,8 @@ use Rattle.runner.proofs.SpanLaws.{then-more}
 use Rattle.runner.proofs.spans.span_length.Goals as goal
 
 pub loop-n-init : goal.loop-n-init
-loop-n-init c = let a = c.args in (
-  omega (arith, c.fours-n.ensures.0, c.requires.row_rest.column),
-  λ e.
-      let f = c.extends.ensures (c.if-not-extends.false) e in
-      let m = same-bound (config_of a.o) a.image.now a.i (a.i - a.w) f.like-up in
-      then-more (Extends (config_of a.o) a.w a.image.now a.labels.now (get_or a.labels.now (a.i - 1) 0)) a.i 1 c.fours-n.result (λ j l. subst (Extends _ _ _ _ _) (let z : a.i ≡ a.i + j = omega arith in z) f) (c.fours-n.ensures.1 (record { shifted = e; bound = m.0; bounded = m.1; limited = c.requires.limits_of m.0 m.1 })),
-)
+loop-n-init c =
+    let a = c.args in
+    let f = c.extends.ensures (c.if-not-extends.false) in
+    let m = same-bound (config_of a.input.o) a.input.image.now a.at.i (a.at.i - a.input.w) f.like-up in
+    then-more (Extends (config_of a.input.o) a.input.w a.input.image.now a.b.now.labels.now (get_or a.b.now.labels.now (a.at.i - 1) 0)) a.at.i 1 _ (λ j l. subst (Extends _ _ _ _ _) (let z : a.at.i ≡ a.at.i + j = omega arith in z) f) (c.fours-n.ensures.1 (record { shifted = a.input.given.shifted; bound = m.0; bounded = m.1; limited = c.requires.limits_of m.0 m.1 }))

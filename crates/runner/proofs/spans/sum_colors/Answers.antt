@@ -1,7 +1,6 @@
 use mathlib.Core.Path.{◌≡◌, ap, ap₂, ◌∙◌, subst, sym}
 use mathlib.Core.List.{List}
-use Prim.Native.Nat.{ℕ, ◌+◌, ◌*◌, ◌≤◌, ◌<◌}
-use native.Mathlib.Numerals.{add-one}
+use Prim.Native.Nat.{ℕ, suc, ◌+◌, ◌-◌, ◌*◌, ◌≤◌, ◌<◌}
 use native.Mathlib.Omega.{arith}
 use lib.ListN.{get_or}
 use Rattle.rules.specs.Color.{Color, ColorSum, sum_of_one, ◌⊕◌, pixel}
@@ -9,6 +8,8 @@ use Rattle.rules.specs.Code.Ranges.{Fits}
 use Rattle.rules.specs.Code.Spans.{sum_from}
 use Rattle.rules.proofs.Spans.{sum_fits}
 use Rattle.rules.specs.Code.Bounds.{count_bound}
+use Rattle.rules.specs.Calls.{sum_call}
+use Rattle.color.specs.Colors.{sum_of}
 use Rattle.runner.specs.Code.Slots.{Adds}
 use Rattle.runner.proofs.Slots.{adds-taken}
 use Rattle.runner.proofs.spans.sum_colors.Goals as goal
@@ -26,14 +27,20 @@ one-fits image b i j l {v} {c} e f =
       count = omega (arith, F.count);
     }
 
-more : (image : List ℕ) (i j : ℕ) {v : ColorSum} {c : Color} → v ≡ sum_from image i j → c ≡ pixel image (i + j) → v ⊕ sum_of_one c ≡ sum_from image i (j + 1)
+more : (image : List ℕ) (i j : ℕ) {v : ColorSum} {c : Color} → i ≤ j → v ≡ sum_from image i (j - i) → c ≡ pixel image j → v ⊕ sum_of_one c ≡ sum_from image i (j + 1 - i)
 unfolding sum_from
-more image i j e f = ap₂ (λ a b. a ⊕ sum_of_one b) e f ∙ ap (sum_from image i) (sym (add-one j))
+more image i j l e f =
+    let a : j + 1 - i ≡ suc (j - i) = omega arith in
+    let b : i + (j - i) ≡ j = omega arith in
+    rw (a, b) (ap₂ (λ a b. a ⊕ sum_of_one b) e f)
 
 pub loop-j-init : goal.loop-j-init
 unfolding sum_from
-loop-j-init c = (omega arith, c.no_sum-s.ensures)
+loop-j-init c = let e : c.args.i - c.args.i ≡ 0 = omega arith in rw e (cc)
 
 pub loop-j-preserved : goal.loop-j-preserved
-loop-j-preserved c = let more-fits = one-fits c.args.image.now (λ p. omega (arith, c.shared_slice_known-1.given p)) c.args.i c.loop-j.j (omega (arith, c.loop-j-test.true, c.requires)) c.loop-j.invariant.1 c.color_at.ensures in
-    (omega (arith, c.loop-j-test.true), c.sum_with-s.ensures ∙ adds-taken more-fits ∙ more _ _ _ c.loop-j.invariant.1 c.color_at.ensures)
+loop-j-preserved c =
+    let l = c.loop-j in
+    let b : c.args.i + (l.j - c.args.i) ≡ l.j = omega arith in
+    let fits = one-fits c.args.image.now (λ p. omega (arith, c.type_inv.image p)) c.args.i (l.j - c.args.i) (omega (arith, c.requires)) l.invariant (rw b c.color_at.ensures) in
+    c.plus-s.ensures ∙ ap (sum_call (sum_of c.loop-j.s)) c.from.ensures ∙ adds-taken fits ∙ more _ _ _ l.auto.j l.invariant c.color_at.ensures

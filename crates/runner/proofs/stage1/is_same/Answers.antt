@@ -3,7 +3,8 @@ use mathlib.Core.Bool.{Bool}
 use mathlib.Core.Option.{Option}
 use lib.IntN.{ℤ}
 use mir.Syntax.{w32}
-use mir.ValLaws.{to_z-of_z}
+use mir.Val.{to_z, of_z}
+use Rattle.std.proofs.Common.{rules}
 use Rattle.rules.specs.Color.{Color, is_same}
 use Rattle.rules.specs.Stage1.{same_at}
 use Rattle.runner.proofs.stage1.is_same.Goals as goal
@@ -14,4 +15,5 @@ same e f g h i = cc
 
 pub returns : goal.returns
 unfolding same_at
-returns c image p q e a b = same c.is_same.ensures e (to_z-of_z w32 _ (record { sfits = c.struct_told-1.given.1.0.1 })) a b
+returns c p q a b = let z : to_z w32 (of_z w32 c.args.input.o.is_same_color_b) ≡ c.args.input.o.is_same_color_b = search rules in
+    same c.is_same.ensures c.args.input.given.shifted z a b

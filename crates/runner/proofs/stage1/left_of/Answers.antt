@@ -1,10 +1,9 @@
-use mathlib.Core.Path.{◌∙◌}
-use native.Mathlib.Omega.{arith}
+use Rattle.std.proofs.Common.{arith, ◌∙◌}
 use Rattle.runner.proofs.Spots.{no-left, left-pixel}
 use Rattle.runner.proofs.stage1.left_of.Goals as goal
 
-pub returns-then-x-eq0 : goal.returns-then-x-eq0
-returns-then-x-eq0 c i S whole = no-left _ S whole c.if-x-eq0.true
+pub returns-then-at-eq0 : goal.returns-then-at-eq0
+returns-then-at-eq0 c = no-left _ c.requires c.args.input.given.whole c.if-at-eq0.true
 
 pub returns : goal.returns
-returns c i S whole = c.pixel_at.ensures ∙ left-pixel _ S whole (omega (arith, c.if-x-eq0.false))
+returns c = c.pixel_at.ensures ∙ left-pixel _ c.requires c.args.input.given.whole (omega (arith, c.if-at-eq0.false))

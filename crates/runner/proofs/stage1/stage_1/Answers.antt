@@ -1,3 +1,4 @@
+use Rattle.std.proofs.Common.{rules}
 use mathlib.Core.Path.{◌≡◌, refl, ◌∙◌}
 use mathlib.Core.List.{List}
 use Prim.Native.Nat.{ℕ, ◌+◌, ◌*◌, ◌≤◌, ◌<◌}
@@ -6,7 +7,8 @@ use lib.ListN.{length}
 use Rattle.rules.specs.Color.{RunnerConfig}
 use Rattle.rules.specs.Layout.{slot_width}
 use Rattle.runner.specs.Code.Slots.{cleared_slot}
-use Rattle.runner.specs.Code.Stage1.{Given, Taking}
+use Rattle.runner.specs.Code.Given.{Given}
+use Rattle.runner.specs.Code.Stage1.{Taking}
 use Rattle.runner.proofs.SpanLaws.{row-end}
 use Rattle.runner.proofs.Spots.{spot_of}
 use Rattle.runner.proofs.Stage1Steps.{held-fresh, held_all}
@@ -19,32 +21,40 @@ taking : {o : RunnerConfig} {w h shift : ℕ} {image L₀ K₀ B₀ E₀ L K B E
 taking G I l t₀ e r = record { given = G; spot = spot_of I.index I.column l; holding = I.held t₀ e r; room = r }
 
 -- the pixels taken are on the image
-inside : (c : After-take_pixels-t) → (let a = c.args in c.loop-i.i + c.take_pixels-t.result.pixels ≤ a.w * a.h)
+inside : (c : After-take_pixels-t) → (let a = c.args in c.loop-at.at.i + c.take_pixels-t.result.pixels ≤ a.input.w * a.input.h)
 inside c =
-    omega (arith, c.take_pixels-t.ensures.1, row-end (taking c.requires.given c.loop-i.invariant c.loop-i-test.true _ c.clear_slot.ensures c.requires.blank.table))
+    omega (arith, c.take_pixels-t.ensures.pixels, row-end (taking c.args.input.given c.loop-at.invariant.going c.loop-at-test.true _ c.clear_slot.ensures c.requires.table))
 
-pub loop-i-init : goal.loop-i-init
-loop-i-init c =
-    let B = c.requires.blank in
+pub loop-at-init : goal.loop-at-init
+loop-at-init c =
+    let B = c.requires in
     record {
-      index = omega arith;
-      column = c.requires.given.columns;
-      within = omega arith;
-      held = held-fresh _ _ _ _ B.labels B.links B.ends;
-      kept = (refl, refl, refl, refl);
+      loans = search rules;
+      going = record {
+        index = omega arith;
+        column = c.args.input.given.columns;
+        within = omega arith;
+        held = held-fresh _ _ _ _ B.labels B.links B.ends;
+      };
     }
 
-pub loop-i-preserved : goal.loop-i-preserved
-loop-i-preserved c = let I = c.loop-i.invariant in
-    let k = c.take_pixels-t.auto in
+pub pixel_past-at-requires : goal.pixel_past-at-requires
+pixel_past-at-requires c =
+    let z = inside (goal.at.pixel_past-at-requires c).After-take_pixels-t in
+    (omega arith, omega arith, search rules, search rules, omega (arith, z, c.args.input.given.small))
+
+pub loop-at-preserved : goal.loop-at-preserved
+loop-at-preserved c = let I = c.loop-at.invariant.going in
     record {
-      index = c.cell_past-at.ensures.1 _ I.index;
-      column = c.cell_past-at.ensures.0;
-      within = inside (goal.at.loop-i-preserved c).After-take_pixels-t;
-      held = λ t₀ e r. c.take_pixels-t.ensures.2 t₀ (taking c.requires.given I c.loop-i-test.true t₀ e r);
-      kept = (k.labels ∙ I.kept.0, k.links ∙ I.kept.1, k.table ∙ I.kept.2, k.ends ∙ I.kept.3);
+      loans = search rules;
+      going = record {
+        index = c.pixel_past-at.ensures.2 I.index;
+        column = c.pixel_past-at.ensures.1;
+        within = omega (arith, inside (goal.at.loop-at-preserved c).After-take_pixels-t);
+        held = λ t₀ e r. rw c.pixel_past-at.ensures.0 (c.take_pixels-t.ensures.holding t₀ (taking c.args.input.given I c.loop-at-test.true t₀ e r));
+      };
     }
 
-pub returns : goal.returns
-returns c = let I = c.loop-i.invariant in
-    held_all _ _ _ _ (omega (arith, I.within, c.loop-i-test.false)) (I.held _ c.clear_slot.ensures c.requires.blank.table)
+pub returns-clause-holding : goal.returns-clause-holding
+returns-clause-holding c = let I = c.loop-at.invariant.going in
+    held_all _ _ _ _ (omega (arith, I.within, c.loop-at-test.false)) (I.held _ c.clear_slot.ensures c.requires.table)

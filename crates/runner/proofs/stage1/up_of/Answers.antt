@@ -1,10 +1,9 @@
-use mathlib.Core.Path.{◌∙◌}
-use native.Mathlib.Omega.{arith}
+use Rattle.std.proofs.Common.{arith, ◌∙◌}
 use Rattle.runner.proofs.Spots.{no-up, up-pixel}
 use Rattle.runner.proofs.stage1.up_of.Goals as goal
 
-pub returns-then-y-eq0 : goal.returns-then-y-eq0
-returns-then-y-eq0 c i S whole = no-up _ S whole c.if-y-eq0.true
+pub returns-then-at-eq0 : goal.returns-then-at-eq0
+returns-then-at-eq0 c = no-up _ c.requires c.args.input.given.whole c.if-at-eq0.true
 
 pub returns : goal.returns
-returns c i S whole = c.pixel_at.ensures ∙ up-pixel _ S whole (omega (arith, c.if-y-eq0.false))
+returns c = c.pixel_at.ensures ∙ up-pixel _ c.requires c.args.input.given.whole (omega (arith, c.if-at-eq0.false))

@@ -16,8 +16,8 @@ pub record Running (o : RunnerConfig) (w h : ℕ) (image L₀ K₀ B₀ W₀ : L
   pub links : length K ≡ length K₀
   pub table : length B ≡ length B₀
 
-abbrev pub invariant-loop-o : goal.invariant-loop-o
-invariant-loop-o l = Running (config_of l.o) l.w l.h l.image l.initial.labels l.initial.links l.initial.table l.initial.work l.initial.t l.labels l.links l.table l.work l.t
+abbrev pub invariant-loop-e : goal.invariant-loop-e
+invariant-loop-e l = Running (config_of l.o) l.w l.h l.image l.initial.labels l.initial.links l.initial.table l.initial.work l.initial.t l.labels l.links l.table l.work l.t
 
-abbrev pub decreases-loop-o : goal.decreases-loop-o
-decreases-loop-o l = 2 * (l.w * l.h) - l.t.turns
+abbrev pub decreases-loop-e : goal.decreases-loop-e
+decreases-loop-e l = 2 * (l.w * l.h) - l.t.turns

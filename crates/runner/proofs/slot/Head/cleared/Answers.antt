@@ -6,4 +6,4 @@ use Rattle.runner.proofs.slot.Head.cleared.Goals as goal
 
 pub returns : goal.returns
 unfolding first_of
-returns c = head-is new_cluster refl refl c.empty.ensures c.cleared.ensures
+returns c = head-is new_cluster refl refl (cc) (cc)

@@ -19,4 +19,4 @@ returns c = λ t f e d.
     (c.merge.ensures
     ∙ ap (λ (h : Head). merge_rect (rect_of h.rect) (rect_of o.rect)) e
     ∙ ap (λ (h : Head). merge_rect t.rect (rect_of h.rect)) d)
-    (c.sum_of_two.ensures ∙ adds-taken c.requires.1 ∙ ap (λ (h : Head). sum_of h.sum ⊕ sum_of o.sum) e ∙ ap (λ (h : Head). t.sum ⊕ sum_of h.sum) d)
+    (c.plus.ensures ∙ adds-taken c.requires.1 ∙ ap (λ (h : Head). sum_of h.sum ⊕ sum_of o.sum) e ∙ ap (λ (h : Head). t.sum ⊕ sum_of h.sum) d)

@@ -1,5 +1,0 @@
-use Rattle.rules.proofs.Walks.{walk_none}
-use Rattle.runner.proofs.labelling.relabel.Goals as goal
-
-pub returns : goal.returns
-returns c = rw (walk_none _ _ _ c.loop-left-test.false) at c.loop-left.invariant.same
