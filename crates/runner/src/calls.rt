@@ -43,10 +43,10 @@ fn stage_1(
     links: &mut [u32],
     table: &mut [u32],
     ends: &mut [u32],
-    input: Input,
+    input: &Input,
 ) -> u32
-    requires { Blank (input.w * input.h) labels.old links.old table.old ends.old }
-    ensures { let p = input.entry in (next : ℕ)
+    requires { Blank (input.now.w * input.now.h) labels.old links.old table.old ends.old }
+    ensures { let p = input.now in (next : ℕ)
         × Holding (p.w * p.h) (stage1 (config_of p.o) p.w p.h p.image.now) table.old
         labels.new links.new table.new ends.new next result }
 {
@@ -86,7 +86,7 @@ fn label_image(
         w,
         h,
     };
-    stage_1(labels, links, table, &mut work[3 * room..5 * room], input)
+    stage_1(labels, links, table, &mut work[3 * room..5 * room], &input)
 }
 
 // Both stages.
