@@ -1,5 +1,5 @@
 // Painting of a list from its first pixel and from its middle at once, while the middle of the next list is looked for.
-ghost use Rattle.std.specs.Prelude.{◌≡◌, ◌+◌, ◌*◌, ◌/◌, ◌≤◌, T, length};
+ghost use Rattle.std.specs.Prelude.{◌≡◌, ◌+◌, ◌*◌, ◌/◌, ◌≤◌, ◌<◌, ℕ, T, length, get_or};
 ghost use Rattle.rules.specs.Picture.{paint_pixel};
 ghost use Rattle.rules.specs.Paint.{reads};
 ghost use Rattle.color.specs.Colors.{color_of};
@@ -42,53 +42,30 @@ impl Sheet<'_> {
         at
     }
 
-    // Paints count pixels from first and count from mid, and answers where the links from mid then lead.
-    fn paint_both(self, picture: &mut [u8], first: u32, mid: u32, count: u32, c: Color) -> u32
+    // Paints count pixels from the first place and count from the second, while all of them go count links on.
+    fn paint_two<const N: usize>(
+        self,
+        picture: &mut [u8],
+        from: [u32; N],
+        count: u32,
+        c: Color,
+    ) -> [u32; N]
+        requires two { 2 ≤ N }
         requires long { 4 * self.size ≤ length picture.old }
-        requires first { T (reads self.size self.links.now first count) }
-        requires mid { T (reads self.size self.links.now mid count) }
-        ensures ends { let s = self.entry in Leads s.size s.links.now mid count result }
+        requires read { (i : ℕ) → i < N → T (reads self.size self.links.now (get_or from i 0) count) }
+        ensures ends { let s = self.entry in (i : ℕ) → i < N
+            → Leads s.size s.links.now (get_or from.entry i 0) count (get_or result i 0) }
         ensures painted { let s = self.entry in picture.new
-            ≡ paint_along (color_of c) s.links.now mid count (paint_along (color_of c) s.links.now first count picture.old) }
+            ≡ paint_along (color_of c) s.links.now (get_or from.entry 1 0) count
+            (paint_along (color_of c) s.links.now (get_or from.entry 0 0) count picture.old) }
     {
-        let mut x = first;
-        let mut y = mid;
+        let mut at = from;
         for _step in 0..count {
-            let p = (x - 1) as usize;
-            let q = (y - 1) as usize;
-            paint_pixel(picture, p, c);
-            paint_pixel(picture, q, c);
-            x = self.links[p];
-            y = self.links[q];
+            paint_pixel(picture, (at[0] - 1) as usize, c);
+            paint_pixel(picture, (at[1] - 1) as usize, c);
+            self.follow(&mut at);
         }
-        y
-    }
-
-    // Paints count pixels from at.x and count from at.y, and all three go count links on.
-    fn paint_both_and_look(self, picture: &mut [u8], at: Cursors, count: u32, c: Color) -> Cursors
-        requires long { 4 * self.size ≤ length picture.old }
-        requires x { T (reads self.size self.links.now at.x count) }
-        requires y { T (reads self.size self.links.now at.y count) }
-        requires z { T (reads self.size self.links.now at.z count) }
-        ensures x { let s = self.entry in Leads s.size s.links.now at.x count result.x }
-        ensures y { let s = self.entry in Leads s.size s.links.now at.y count result.y }
-        ensures z { let s = self.entry in Leads s.size s.links.now at.z count result.z }
-        ensures painted { let s = self.entry in picture.new
-            ≡ paint_along (color_of c) s.links.now at.y count (paint_along (color_of c) s.links.now at.x count picture.old) }
-    {
-        let mut x = at.x;
-        let mut y = at.y;
-        let mut z = at.z;
-        for _step in 0..count {
-            let p = (x - 1) as usize;
-            let q = (y - 1) as usize;
-            paint_pixel(picture, p, c);
-            paint_pixel(picture, q, c);
-            x = self.links[p];
-            y = self.links[q];
-            z = self.links[(z - 1) as usize];
-        }
-        Cursors { x, y, z }
+        at
     }
 
     // Paints the count pixels from at.x, whose middle is at.y, and answers where ahead links from at.z lead.
@@ -109,9 +86,9 @@ impl Sheet<'_> {
     {
         let half = count / 2;
         let both = half.min(ahead);
-        let then = self.paint_both_and_look(picture, at, both, c);
-        let y = self.paint_both(picture, then.x, then.y, half - both, c);
-        let z = self.look(then.z, ahead - both);
+        let [x, y, z] = self.paint_two(picture, [at.x, at.y, at.z], both, c);
+        let [_, y] = self.paint_two(picture, [x, y], half - both, c);
+        let z = self.look(z, ahead - both);
         if half + half < count {
             paint_pixel(picture, (y - 1) as usize, c);
         }

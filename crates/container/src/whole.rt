@@ -1,6 +1,6 @@
 // Whether the last entry's list is all pixels of the sheet: three stretches of it are walked at once, so that no link
 // waits for another's.
-ghost use Rattle.std.specs.Prelude.{◌≡◌, true, false, ℕ, ◌-◌, ◌*◌, ◌≤◌, ◌<◌, get_or};
+ghost use Rattle.std.specs.Prelude.{◌≡◌, true, false, ℕ, ◌-◌, ◌*◌, ◌≤◌, ◌<◌, length, get_or};
 ghost use Rattle.rules.specs.Paint.{slot_number};
 ghost use Rattle.container.specs.Code.Leads.{Leads};
 
@@ -9,9 +9,9 @@ use crate::numbered::Numbered;
 
 // Where walks stand, and how many links each has gone.
 #[derive(Clone, Copy)]
-struct Walk<const N: usize> {
-    at: [u32; N],
-    moved: u32,
+pub(crate) struct Walk<const N: usize> {
+    pub(crate) at: [u32; N],
+    pub(crate) moved: u32,
 }
 
 // Where the walks from first, q and r stop, and how many links each has gone.
@@ -29,35 +29,31 @@ impl Sheet<'_> {
         (v == 0) | (self.size < v) | (v == q) | (v == r)
     }
 
-    // One link on from each of several pixels.
-    fn followed<const N: usize>(self, at: [u32; N]) -> [u32; N]
-        requires { (i : ℕ) → i < N → (0 < get_or at i 0) × (get_or at i 0 ≤ self.size) }
-        ensures { (i : ℕ) → i < N → get_or result i 0 ≡ get_or self.entry.links.now (get_or at.entry i 0 - 1) 0 }
+    // Each of several places goes one link on.
+    pub(crate) fn follow<const N: usize>(self, at: &mut [u32; N])
+        requires { (i : ℕ) → i < N → (0 < get_or at.old i 0) × (get_or at.old i 0 ≤ self.size) }
+        ensures length { length at.new ≡ N }
+        ensures on { (i : ℕ) → i < N → get_or at.new i 0 ≡ get_or self.entry.links.now (get_or at.old i 0 - 1) 0 }
     {
-        let mut next = at;
-        for v in &mut next {
+        for v in at.iter_mut() {
             *v = self.links[(*v - 1) as usize];
         }
-        next
     }
 
-    // Walks from several pixels until one of the walks stops.
-    fn walk<const N: usize>(self, q: u32, r: u32, from: [u32; N]) -> Walk<N>
-        ensures moved { result.moved ≤ self.entry.size }
+    // Walks from several pixels, most links at most, until one of the walks stops.
+    pub(crate) fn walk<const N: usize>(self, q: u32, r: u32, from: [u32; N], most: u32) -> Walk<N>
+        ensures moved { result.moved ≤ most }
         ensures leads { let s = self.entry in (i : ℕ) → i < N
             → Leads s.size s.links.now (get_or from.entry i 0) result.moved (get_or result.at i 0) }
     {
         let mut at = from;
-        for moved in 0..self.size {
+        for moved in 0..most {
             if at.iter().any(|v| self.walk_ends(*v, q, r)) {
                 return Walk { at, moved };
             }
-            at = self.followed(at);
+            self.follow(&mut at);
         }
-        Walk {
-            at,
-            moved: self.size,
-        }
+        Walk { at, moved: most }
     }
 
     // Walks from first, q and r: all three, then any two of which neither has stopped, then each alone.
@@ -70,14 +66,17 @@ impl Sheet<'_> {
         ensures q { let s = self.entry in Leads s.size s.links.now q (get_or result.moved 1 0) (get_or result.at 1 0) }
         ensures r { let s = self.entry in Leads s.size s.links.now r (get_or result.moved 2 0) (get_or result.at 2 0) }
     {
-        let [b, c] = self.followed([q, r]);
-        let t = self.walk(q, r, [first, b, c]);
-        let u = self.walk(q, r, [t.at[0], t.at[1]]);
-        let v = self.walk(q, r, [u.at[1], t.at[2]]);
-        let w = self.walk(q, r, [u.at[0], v.at[1]]);
-        let x = self.walk(q, r, [w.at[0]]);
-        let y = self.walk(q, r, [v.at[0]]);
-        let z = self.walk(q, r, [w.at[1]]);
+        let mut on = [q, r];
+        self.follow(&mut on);
+        let [b, c] = on;
+        let size = self.size;
+        let t = self.walk(q, r, [first, b, c], size);
+        let u = self.walk(q, r, [t.at[0], t.at[1]], size);
+        let v = self.walk(q, r, [u.at[1], t.at[2]], size);
+        let w = self.walk(q, r, [u.at[0], v.at[1]], size);
+        let x = self.walk(q, r, [w.at[0]], size);
+        let y = self.walk(q, r, [v.at[0]], size);
+        let z = self.walk(q, r, [w.at[1]], size);
         Ends {
             at: [x.at[0], y.at[0], z.at[0]],
             moved: [

@@ -200,7 +200,8 @@ pub(crate) fn span_length(input: Input, b: &Builder, limits: &[u8; 16], at: Pixe
         return 0;
     }
     let room = input.w - at.x;
-    for n in 1 + fours(input, labels, limits, i + 1, k, room - 1)..room {
+    let found = 1 + fours(input, labels, limits, i + 1, k, room - 1);
+    for n in found..room {
         if !extends(input, labels, i + n, k) {
             return n;
         }

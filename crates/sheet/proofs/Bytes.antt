@@ -11,7 +11,7 @@ use borrow.Author.Tests.{leb-true, leb-false, lt-ltb, le-ltb, ltb-false}
 use lib.Dec.{leb, ltb}
 use lib.ListN.{length, get_or, set, take, length-append, length-take, drop_of_length-le}
 use lib.Seq.{sets, sets-eq, append_snoc, take-suc}
-use Rattle.std.specs.List.{list_any, range_with_len}
+use Rattle.std.specs.List.{fold, list_any, range_with_len}
 use Rattle.sheet.specs.Code.Pairs.{pairs}
 use Rattle.rules.specs.Base.{up_to, none_above}
 use Rattle.rules.specs.Layout.{first_pixel_place, pixel_count_place}
@@ -69,11 +69,11 @@ small_at [] e i l = absurd (omega arith)
 small_at (x ∷ xs) e zero l = ltb-false 65535 x (sym (large-one x) ∙ (neither _ (is_large xs) (sym (large-append (x ∷ []) xs) ∙ e)).0)
 small_at (x ∷ xs) e (suc i) l = small_at xs (neither (is_large (x ∷ [])) _ (sym (large-append (x ∷ []) xs) ∙ e)).1 i (omega arith)
 
--- a number of xs is large, as `any` finds it
-pub any-large : (xs : List ℕ) → list_any (ltb 65535) xs ≡ is_large xs
+-- whether a number of xs is large, as a fold finds it
+pub fold-large : (b : Bool) (xs : List ℕ) → fold (λ c x. c || ltb 65535 x) b xs ≡ b || is_large xs
 unfolding is_large
-any-large [] = refl
-any-large (x ∷ xs) = ap (λ b. b || list_any (ltb 65535) xs) (sym (large-one x)) ∙ ap (λ b. is_large (x ∷ []) || b) (any-large xs) ∙ sym (large-append (x ∷ []) xs)
+fold-large b [] = sym (or-false b)
+fold-large b (x ∷ xs) = fold-large (b || ltb 65535 x) xs ∙ or_assoc b (ltb 65535 x) (is_large xs) ∙ ap (λ c. b || c) (ap (λ c. c || is_large xs) (sym (large-one x)) ∙ sym (large-append (x ∷ []) xs))
 
 -- ---- two numbers for each of 0 .. n - 1, as of pixels and of slots
 

@@ -7,4 +7,7 @@ loop-moved-preserved g c =
     let at = c.loop-moved.at in
     let s = c.args.self in
     let on : (i : ℕ) → i < g.row.N → (0 < get_or at i 0) × (get_or at i 0 ≤ s.size) = search rules in
-    λ i l. rw (c.followed-at.ensures i l) (leads-more s.size s.links.now c.loop-moved.moved (get_or c.args.from i 0) (get_or at i 0) (c.loop-moved.invariant i l) (on i l).0 (on i l).1)
+    record {
+      lanes = c.follow.ensures.length;
+      leads = λ i l. rw (c.follow.ensures.on i l) (leads-more s.size s.links.now c.loop-moved.moved (get_or c.args.from i 0) (get_or at i 0) (c.loop-moved.invariant.leads i l) (on i l).0 (on i l).1);
+    }

@@ -18,10 +18,10 @@ pub returns-clause-q : goal.returns-clause-q
 returns-clause-q c = let s = c.args.self in
     let t = c.walk-t.ensures.leads 1 (omega arith) in
     let b = leads-more s.size s.links.now 0 c.args.q c.args.q refl c.requires.q.0 c.requires.q.1 in
-    four s.size s.links.now _ _ _ _ _ _ _ _ _ (leads-on s.size s.links.now 1 c.walk-t.result.moved c.args.q _ _ (rw (c.followed.ensures 0 (omega arith)) b) t) (c.walk-u.ensures.leads 1 (omega arith)) (c.walk-v.ensures.leads 0 (omega arith)) (c.walk-y.ensures.leads 0 (omega arith))
+    four s.size s.links.now _ _ _ _ _ _ _ _ _ (leads-on s.size s.links.now 1 c.walk-t.result.moved c.args.q _ _ (rw (c.follow.ensures.on 0 (omega arith)) b) t) (c.walk-u.ensures.leads 1 (omega arith)) (c.walk-v.ensures.leads 0 (omega arith)) (c.walk-y.ensures.leads 0 (omega arith))
 
 pub returns-clause-r : goal.returns-clause-r
 returns-clause-r c = let s = c.args.self in
     let t = c.walk-t.ensures.leads 2 (omega arith) in
     let d = leads-more s.size s.links.now 0 c.args.r c.args.r refl c.requires.r.0 c.requires.r.1 in
-    four s.size s.links.now _ _ _ _ _ _ _ _ _ (leads-on s.size s.links.now 1 c.walk-t.result.moved c.args.r _ _ (rw (c.followed.ensures 1 (omega arith)) d) t) (c.walk-v.ensures.leads 1 (omega arith)) (c.walk-w.ensures.leads 1 (omega arith)) (c.walk-z.ensures.leads 0 (omega arith))
+    four s.size s.links.now _ _ _ _ _ _ _ _ _ (leads-on s.size s.links.now 1 c.walk-t.result.moved c.args.r _ _ (rw (c.follow.ensures.on 1 (omega arith)) d) t) (c.walk-v.ensures.leads 1 (omega arith)) (c.walk-w.ensures.leads 1 (omega arith)) (c.walk-z.ensures.leads 0 (omega arith))

@@ -1,21 +1,30 @@
-use Prim.Native.Nat.{◌<◌}
+use mathlib.Core.Path.{◌≡◌, refl}
+use mathlib.Core.List.{List, [], ◌∷◌}
+use Prim.Native.Nat.{ℕ, zero, suc, ◌-◌, ◌≤◌, ◌<◌}
 use native.Mathlib.Omega.{arith}
-use Rattle.container.proofs.Passes.{On, on-sheet, one_more}
+use lib.ListN.{get_or}
+use Rattle.container.proofs.Passes.{walked-reads}
 use Rattle.container.proofs.numbered.Numbered.walked.Goals as goal
-use Rattle.container.proofs.numbered.Numbered.walked.Goals.{In-loop-i}
 
--- in a turn all four lanes are on the sheet
-tested : (c : In-loop-i)
-    → (let t = c.loop-i in let size = c.args.self.sheet.size in (t.i < c.min-k.result) × On size t.a0 × On size t.a1 × On size t.a2 × On size t.a3)
-tested c = on-sheet _ _ _ _ _ _ _ c.loop-i-test.true
+-- each of four counts, less n
+module _ (xs : List ℕ) (n : ℕ) where
+  less : (i : ℕ) → i < 4 → get_or ((get_or xs 0 0 - n) ∷ (get_or xs 1 0 - n) ∷ (get_or xs 2 0 - n) ∷ (get_or xs 3 0 - n) ∷ []) i 0 ≡ get_or xs i 0 - n
+  less zero l = refl
+  less (suc zero) l = refl
+  less (suc (suc zero)) l = refl
+  less (suc (suc (suc zero))) l = refl
+  less (suc (suc (suc (suc i)))) l = absurd (omega arith)
 
-pub loop-i-preserved : goal.loop-i-preserved
-loop-i-preserved c = let a = c.args in
-    let s = tested (goal.at.loop-i-preserved c).In-loop-i in
-    let v = c.loop-i.invariant in (
-      omega (arith, s.0),
-      λ r. v.1 (one_more _ a.self.sheet.links.now _ a.x.l0 c.loop-i.i s.1.0 s.1.1 r),
-      λ r. v.2 (one_more _ a.self.sheet.links.now _ a.x.l1 c.loop-i.i s.2.0 s.2.1 r),
-      λ r. v.3 (one_more _ a.self.sheet.links.now _ a.x.l2 c.loop-i.i s.3.0 s.3.1 r),
-      λ r. v.4 (one_more _ a.self.sheet.links.now _ a.x.l3 c.loop-i.i s.4.0 s.4.1 r),
-    )
+  each : n ≤ get_or xs 0 0 → n ≤ get_or xs 1 0 → n ≤ get_or xs 2 0 → n ≤ get_or xs 3 0 → (i : ℕ) → i < 4 → n ≤ get_or xs i 0
+  each a b c d zero l = a
+  each a b c d (suc zero) l = b
+  each a b c d (suc (suc zero)) l = c
+  each a b c d (suc (suc (suc zero))) l = d
+  each a b c d (suc (suc (suc (suc i)))) l = absurd (omega arith)
+
+pub returns-clause-pass : goal.returns-clause-pass
+returns-clause-pass c table outputs m p r =
+    let s = c.args.self.sheet in
+    let count = c.args.lanes.count in
+    let n = c.walk-moved.result.moved in
+    p (λ i l. walked-reads s.size s.links.now _ _ n _ (each count n (omega arith) (omega arith) (omega arith) (omega arith) i l) (c.walk-moved.ensures.leads i l) (rw (less count n i l) at (r i l)))
