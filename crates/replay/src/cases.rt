@@ -130,7 +130,7 @@ impl<'a> Case<'a> {
         };
         Ok(
             (left.answer == Ok(self.counts))
-                & left.work.iter().all(|number| *number == 0)
+                & left.work.iter().all(|value| *value == 0)
                 & self.is_run(&left.buffers)
                 & is_shown
                 & self.is_painted(alloc, &left.buffers)?

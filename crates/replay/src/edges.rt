@@ -42,7 +42,7 @@ struct Change {
 // A call: the counts, the lengths that are lent (bytes: of the picture or the destination), the numbers that are
 // changed, what it has to answer and, where it paints, how many pixels.
 #[derive(Clone, Copy)]
-struct Edge {
+struct SheetEdge {
     size: Size,
     counts: Counts,
     lengths: Lengths,
@@ -53,7 +53,7 @@ struct Edge {
 }
 
 // Painting 3 × 2 pixels, all in the cluster of slot 1, which is put out twice; lent what they ask for.
-const PAINT: Edge = Edge {
+const PAINT: SheetEdge = SheetEdge {
     size: Size { w: 3, h: 2 },
     counts: Counts { n: 2, m: 2 },
     lengths: Lengths {
@@ -69,19 +69,19 @@ const PAINT: Edge = Edge {
 };
 
 // Storing the same.
-const STORE: Edge = Edge { bytes: 44, ..PAINT };
+const STORE: SheetEdge = SheetEdge { bytes: 44, ..PAINT };
 
-impl Edge {
+impl SheetEdge {
     // The same of w × h pixels.
     fn sized(self, w: u32, h: u32) -> Self {
         let size = Size { w, h };
-        Edge { size, ..self }
+        SheetEdge { size, ..self }
     }
 
     // The same with n slots and m outputs.
     fn counted(self, n: u32, m: u32) -> Self {
         let counts = Counts { n, m };
-        Edge { counts, ..self }
+        SheetEdge { counts, ..self }
     }
 
     // The same with buffers of these lengths.
@@ -92,19 +92,19 @@ impl Edge {
             table,
             outputs,
         };
-        Edge { lengths, ..self }
+        SheetEdge { lengths, ..self }
     }
 
     // The same with so many bytes of a picture or a destination.
     fn bytes(self, bytes: usize) -> Self {
-        Edge { bytes, ..self }
+        SheetEdge { bytes, ..self }
     }
 
     // The same with one more number changed: two at most.
     fn changed(self, buffer: Buffer, at: usize, value: u32) -> Self {
         let [last, _] = self.changes;
         let changes = [Some(Change { buffer, at, value }), last];
-        Edge { changes, ..self }
+        SheetEdge { changes, ..self }
     }
 
     // The same with a label changed.
@@ -129,18 +129,18 @@ impl Edge {
 
     // The same, where it paints so many pixels.
     fn painting(self, painted: usize) -> Self {
-        Edge { painted, ..self }
+        SheetEdge { painted, ..self }
     }
 
     // The same, where it is refused.
     fn refused(self, refusal: Refusal) -> Self {
         let expected = Err(refusal);
-        Edge { expected, ..self }
+        SheetEdge { expected, ..self }
     }
 }
 
 // Painting: each refusal where it first appears, the last call before it that is accepted, and several faults at once.
-fn paints() -> [Edge; 17] {
+fn paints() -> [SheetEdge; 17] {
     [
         PAINT,
         PAINT.sized(0, 2).refused(Refusal::NoPixels),
@@ -166,7 +166,7 @@ fn paints() -> [Edge; 17] {
 }
 
 // Painting, the calls whose entries are looked at: also chains that no run makes.
-fn entries() -> [Edge; 20] {
+fn entries() -> [SheetEdge; 20] {
     [
         PAINT.counted(1, 2).refused(Refusal::NoSlot),
         PAINT.output(0, 2).refused(Refusal::NoSlot),
@@ -199,7 +199,7 @@ fn entries() -> [Edge; 20] {
 }
 
 // Storing, likewise.
-fn stores() -> [Edge; 25] {
+fn stores() -> [SheetEdge; 25] {
     [
         STORE,
         STORE.sized(0, 2).refused(Refusal::NoPixels),
@@ -286,7 +286,7 @@ fn shows(picture: &[u8], painted: usize) -> bool {
         })
 }
 
-impl Edge {
+impl SheetEdge {
     // The sheet that the call is lent.
     fn buffers(self, alloc: Global) -> Result<OwnedBuffers, AllocError> {
         let mut buffers = OwnedBuffers {

@@ -48,9 +48,9 @@ impl<'a> Reader<'a> {
         self.number().map(|number| number.cast_signed())
     }
 
-    // A channel of a colour; recorded ones are below 256.
+    // A channel of a colour.
     pub fn channel(&mut self) -> Option<u8> {
-        self.number().map(|number| (number % 256) as u8)
+        u8::try_from(self.number()?).ok()
     }
 
     // A colour.

@@ -10,7 +10,7 @@ use std::alloc::{AllocError, Global};
 
 // A call: the shift, the size, the lengths that are lent, and what it has to answer.
 #[derive(Clone, Copy)]
-struct Edge {
+struct RunEdge {
     shift: i32,
     size: Size,
     image: usize,
@@ -20,7 +20,7 @@ struct Edge {
 }
 
 // 3 × 2 pixels, lent exactly what they ask for.
-const WHOLE: Edge = Edge {
+const WHOLE: RunEdge = RunEdge {
     shift: 4,
     size: Size { w: 3, h: 2 },
     image: 24,
@@ -35,7 +35,7 @@ const WHOLE: Edge = Edge {
 };
 
 // The same size, with nothing lent.
-const EMPTY: Edge = Edge {
+const EMPTY: RunEdge = RunEdge {
     image: 0,
     lengths: Lengths {
         labels: 0,
@@ -47,21 +47,21 @@ const EMPTY: Edge = Edge {
     ..WHOLE
 };
 
-impl Edge {
+impl RunEdge {
     // The same with this shift.
     fn shifted(self, shift: i32) -> Self {
-        Edge { shift, ..self }
+        RunEdge { shift, ..self }
     }
 
     // The same of w × h pixels.
     fn sized(self, w: u32, h: u32) -> Self {
         let size = Size { w, h };
-        Edge { size, ..self }
+        RunEdge { size, ..self }
     }
 
     // The same with an image of so many bytes.
     fn image(self, image: usize) -> Self {
-        Edge { image, ..self }
+        RunEdge { image, ..self }
     }
 
     // The same with buffers of these lengths.
@@ -72,7 +72,7 @@ impl Edge {
             table,
             outputs,
         };
-        Edge {
+        RunEdge {
             lengths,
             work,
             ..self
@@ -82,12 +82,12 @@ impl Edge {
     // The same, where it is refused.
     fn refused(self, refusal: Refusal) -> Self {
         let expected = Err(refusal);
-        Edge { expected, ..self }
+        RunEdge { expected, ..self }
     }
 }
 
 // Each refusal where it first appears, and the last call before it that is accepted.
-fn edges() -> [Edge; 24] {
+fn edges() -> [RunEdge; 24] {
     [
         WHOLE,
         WHOLE.shifted(0),
@@ -119,7 +119,7 @@ fn edges() -> [Edge; 24] {
 }
 
 // Several faults at once.
-fn faults() -> [Edge; 7] {
+fn faults() -> [RunEdge; 7] {
     [
         WHOLE
             .image(23)
@@ -157,7 +157,7 @@ fn settings(shift: i32) -> RunnerConfig {
 // How long the picture of 3 × 2 pixels is.
 const PICTURE: usize = 24;
 
-impl Edge {
+impl RunEdge {
     // What the call has to answer with a picture of so many bytes: one of another length than 3 × 2 pixels ask for is
     // refused where nothing comes before that.
     fn answer(self, call: Call, picture: usize) -> Result<(), Refusal> {
