@@ -1,35 +1,42 @@
-use Rattle.std.proofs.Common.{arith, ◌≡◌}
-use Rattle.rules.specs.Refusals.{sum_answer}
+use mathlib.Core.Path.{◌≡◌, refl}
+use mathlib.Core.Bool.{Bool, false, ◌||◌}
+use native.Mathlib.Omega.{arith}
+use lib.Dec.{ltb}
+use Prim.Native.Nat.{◌+◌}
+use Rattle.rules.specs.Color.{ColorSum, ◌⊕◌}
+use Rattle.rules.specs.Refusals.{largest_total, sum_answer}
 use Rattle.color.specs.Colors.{sum_of}
-use Rattle.color.proofs.Laws.{totals-fit, not-refused, refused, five-totals}
+use Rattle.color.proofs.Laws.{totals-fit, five-totals}
 use Rattle.color.proofs.sum_added.Goals as goal
+use Rattle.color.proofs.sum_added.Goals.{Else-passes}
 
-pub returns-in_err-checked_add : goal.returns-in_err-checked_add
-returns-in_err-checked_add c =
-    let e = refused _ _ (λ (z : sum_answer (sum_of c.args.x) (sum_of c.args.y) ≡ 0). c.in_err-checked_add.ensures (omega (arith, (totals-fit (sum_of c.args.x) (sum_of c.args.y) z).0))) in
-    rw c.from_residual.ensures e
+-- an addition of which no number passes is not refused
+free : (x y : ColorSum) {r g b a n : Bool} → r ≡ ltb largest_total (x.r + y.r) → g ≡ ltb largest_total (x.g + y.g) → b ≡ ltb largest_total (x.b + y.b)
+    → a ≡ ltb largest_total (x.a + y.a) → n ≡ ltb largest_total (x.count + y.count) → r || g || b || a || n ≡ false → sum_answer x y ≡ 0
+unfolding sum_answer ◌⊕◌
+free x y r g b a n e = rw (← r, ← g, ← b, ← a, ← n, e)
 
-pub returns-in_err-checked_add-2 : goal.returns-in_err-checked_add-2
-returns-in_err-checked_add-2 c =
-    let e = refused _ _ (λ (z : sum_answer (sum_of c.args.x) (sum_of c.args.y) ≡ 0). c.in_err-checked_add-2.ensures (omega (arith, (totals-fit (sum_of c.args.x) (sum_of c.args.y) z).1))) in
-    rw c.from_residual-in_err-checked_add-2.ensures e
+not-refused : (c : Else-passes) → (let a = c.args in sum_answer (sum_of a.x) (sum_of a.y) ≡ 0)
+not-refused c = free _ _ c.passes.ensures c.passes-2.ensures c.passes-3.ensures c.passes-4.ensures c.passes-5.ensures c.if-passes.false
 
-pub returns-in_err-checked_add-3 : goal.returns-in_err-checked_add-3
-returns-in_err-checked_add-3 c =
-    let e = refused _ _ (λ (z : sum_answer (sum_of c.args.x) (sum_of c.args.y) ≡ 0). c.in_err-checked_add-3.ensures (omega (arith, (totals-fit (sum_of c.args.x) (sum_of c.args.y) z).2))) in
-    rw c.from_residual-in_err-checked_add-3.ensures e
+pub returns-then-passes : goal.returns-then-passes
+unfolding sum_answer ◌⊕◌
+returns-then-passes c = rw (← c.passes.ensures, ← c.passes-2.ensures, ← c.passes-3.ensures, ← c.passes-4.ensures, ← c.passes-5.ensures, c.if-passes.true) refl
 
-pub returns-in_err-checked_add-4 : goal.returns-in_err-checked_add-4
-returns-in_err-checked_add-4 c =
-    let e = refused _ _ (λ (z : sum_answer (sum_of c.args.x) (sum_of c.args.y) ≡ 0). c.in_err-checked_add-4.ensures (omega (arith, (totals-fit (sum_of c.args.x) (sum_of c.args.y) z).3))) in
-    rw c.from_residual-in_err-checked_add-4.ensures e
+pub overflow_add-result : goal.overflow_add-result
+overflow_add-result c = omega (arith, (totals-fit _ _ (not-refused (goal.at.overflow_add-result c).Else-passes)).0)
 
-pub returns-in_err-checked_add-5 : goal.returns-in_err-checked_add-5
-returns-in_err-checked_add-5 c =
-    let e = refused _ _ (λ (z : sum_answer (sum_of c.args.x) (sum_of c.args.y) ≡ 0). c.in_err-checked_add-5.ensures (omega (arith, (totals-fit (sum_of c.args.x) (sum_of c.args.y) z).4))) in
-    rw c.from_residual-in_err-checked_add-5.ensures e
+pub overflow_add-result-2 : goal.overflow_add-result-2
+overflow_add-result-2 c = omega (arith, (totals-fit _ _ (not-refused (goal.at.overflow_add-result-2 c).Else-passes)).1)
+
+pub overflow_add-result-3 : goal.overflow_add-result-3
+overflow_add-result-3 c = omega (arith, (totals-fit _ _ (not-refused (goal.at.overflow_add-result-3 c).Else-passes)).2)
+
+pub overflow_add-result-4 : goal.overflow_add-result-4
+overflow_add-result-4 c = omega (arith, (totals-fit _ _ (not-refused (goal.at.overflow_add-result-4 c).Else-passes)).3)
+
+pub overflow_add-result-5 : goal.overflow_add-result-5
+overflow_add-result-5 c = omega (arith, (totals-fit _ _ (not-refused (goal.at.overflow_add-result-5 c).Else-passes)).4)
 
 pub returns : goal.returns
-returns c =
-    let e : sum_answer (sum_of c.args.x) (sum_of c.args.y) ≡ 0 = not-refused _ _ (omega arith) (omega arith) (omega arith) (omega arith) (omega arith) in
-    (e, five-totals _ _ c.in_ok-checked_add.ensures.1 c.in_ok-checked_add-2.ensures.1 c.in_ok-checked_add-3.ensures.1 c.in_ok-checked_add-4.ensures.1 c.in_ok-checked_add-5.ensures.1 e)
+returns c = let f = not-refused (goal.at.returns c).Else-passes in (f, five-totals _ _ refl refl refl refl refl f)
