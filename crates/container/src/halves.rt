@@ -23,10 +23,7 @@ pub(crate) fn paint_pixel(picture: &mut [u8], p: usize, c: Color)
     ensures { picture.new ≡ paint_pixel (color_of c) p picture.old }
 {
     let b = 4 * p;
-    picture[b] = c.r;
-    picture[b + 1] = c.g;
-    picture[b + 2] = c.b;
-    picture[b + 3] = c.a;
+    picture[b..b + 4].copy_from_slice(&[c.r, c.g, c.b, c.a]);
 }
 
 impl Sheet<'_> {
