@@ -79,7 +79,8 @@ impl Sheet<'_> {
         requires middle { Leads self.size self.links.now at.x (count / 2) at.y }
         requires ahead { T (reads self.size self.links.now at.z ahead) }
         ensures ahead { let s = self.entry in Leads s.size s.links.now at.z ahead result }
-        ensures painted { let s = self.entry in picture.new ≡ paint_along (color_of c) s.links.now at.x count picture.old }
+        ensures painted { let s = self.entry in picture.new
+            ≡ paint_along (color_of c) s.links.now at.x count picture.old }
     {
         let half = count / 2;
         let both = half.min(ahead);
