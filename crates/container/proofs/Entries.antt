@@ -17,14 +17,10 @@ use Rattle.rules.specs.Paint.{reads, slot_number, slot_residue, entry_answer, en
 use Rattle.rules.proofs.Accepted.{passed, neither}
 use Rattle.rules.specs.Layout.{first_pixel_place, pixel_count_place}
 
--- one turn, and the end, of a loop from last to first
+-- one turn of a loop from last to first
 pub back-turn {ℓ} : {S : Type ℓ} (m : ℕ) (f : ℕ → S → S) (s : S) → 0 < m → times_back m f s ≡ times_back (m - 1) f (f (m - 1) s)
 back-turn zero f s l = absurd (not-suc-le-zero l)
 back-turn (suc i) f s l = rw (sub-one (suc i))
-
-pub back_none {ℓ} : {S : Type ℓ} (m : ℕ) (f : ℕ → S → S) (s : S) → m ≤ 0 → times_back m f s ≡ s
-back_none zero f s l = refl
-back_none (suc i) f s l = absurd (not-suc-le-zero l)
 
 module _ (size n : ℕ) (links table outputs : List ℕ) where
   -- the answer of the entry before place m

@@ -1,72 +1,22 @@
--- Laws of the quick checks: their turns, and that entries which pass both answer 0.
-use mathlib.Core.Path.{◌≡◌, refl, sym, subst}
-use mathlib.Core.Bool.{Bool, true, false, ◌&&◌}
+-- Laws of the quick checks: their lanes, and that entries which pass both answer 0.
+use mathlib.Core.Path.{◌≡◌, refl}
 use mathlib.Core.List.{List}
 use Prim.Native.Nat.{ℕ, zero, suc, ◌+◌, ◌-◌, ◌≤◌, ◌<◌}
 use native.Mathlib.Decide.{ℕ_discrete}
-use native.Mathlib.Nat.{not-suc-le-zero}
-use native.Mathlib.Numerals.{sub-one}
 use native.Mathlib.Omega.{arith}
-use borrow.Author.Tests.{ltb-true, leb-true, lt-ltb, le-leb}
-use lib.Dec.{T, leb, ltb}
+use borrow.Author.Tests.{lt-ltb, le-leb}
+use lib.Dec.{T}
 use lib.ListN.{length, get_or, set}
 use Rattle.std.proofs.Common.{get_or-set_same, get_or-set_other}
 use Rattle.rules.specs.Color.{has_average}
 use Rattle.rules.specs.Paint.{reads, slot_number, slot_residue, entry_answer, entries_answer}
-use Rattle.rules.proofs.Facts.{is_true, both_true}
-use Rattle.rules.proofs.Walks.{reads_none}
+use Rattle.rules.proofs.Facts.{is_true}
 use Rattle.rules.specs.Layout.{first_pixel_place, pixel_count_place}
-use Rattle.container.specs.Code.Quick.{NumbersPass, ListPasses, PassFrom, LanePasses, LanesPass}
+use Rattle.container.specs.Code.Quick.{NumbersPass, ListPasses, LanePasses, LanesPass}
 use Rattle.container.specs.Code.Leads.{Leads}
 use Rattle.container.specs.declared.quick.Lane.{Lane}
 use Rattle.container.specs.declared.quick.Lanes.{Lanes}
 use Rattle.container.proofs.Leads.{leads-reads}
-
-pub never {ℓ} : {A : Type ℓ} → false ≡ true → A
-never e = absurd (subst T (sym e) tt)
-
-pub holds : (a : Bool) → a ≡ true → T a
-holds a e = subst T (sym e) tt
-
--- a pixel number plus one
-abbrev pub On : ℕ → ℕ → Type 0
-On size a = (0 < a) × (a ≤ size)
-
--- what the test of a turn says: link i is one of k, and four lanes are on the sheet
-pub on-sheet : (i k size a b c d : ℕ) → (ltb i k && ltb 0 a && leb a size && ltb 0 b && leb b size && ltb 0 c && leb c size && ltb 0 d && leb d size) ≡ true
-    → (i < k) × On size a × On size b × On size c × On size d
-on-sheet i k size a b c d e =
-    let t8 = both_true _ (leb d size) e in
-    let t7 = both_true _ (ltb 0 d) t8.0 in
-    let t6 = both_true _ (leb c size) t7.0 in
-    let t5 = both_true _ (ltb 0 c) t6.0 in
-    let t4 = both_true _ (leb b size) t5.0 in
-    let t3 = both_true _ (ltb 0 b) t4.0 in
-    let t2 = both_true _ (leb a size) t3.0 in
-    let t1 = both_true (ltb i k) (ltb 0 a) t2.0 in
-    (ltb-true _ _ t1.0, (ltb-true _ _ t1.1, leb-true _ _ t2.1), (ltb-true _ _ t3.1, leb-true _ _ t4.1), (ltb-true _ _ t5.1, leb-true _ _ t6.1), (ltb-true _ _ t7.1, leb-true _ _ t8.1))
-
-module _ (size : ℕ) (links : List ℕ) where
-  -- a list without pixels can be read
-  pub none_left : (at count : ℕ) → count ≡ 0 → T (reads size links at count)
-  none_left at count e = holds _ (reads_none size links at count (omega arith))
-
-  -- what is left of a list after link i
-  pub one_more : (at count i : ℕ) → 0 < at → at ≤ size → T (reads size links (get_or links (at - 1) 0) (count - (i + 1))) → T (reads size links at (count - i))
-  one_more at count i a b r = go at (count - i) a b (rw (less count i) at r)
-    where
-      less : (count i : ℕ) → count - (i + 1) ≡ (count - i) - 1
-      less count i = omega arith
-
-      go : (at left : ℕ) → 0 < at → at ≤ size → T (reads size links (get_or links (at - 1) 0) (left - 1)) → T (reads size links at left)
-      go at zero a b r = tt
-      go zero (suc left) a b r = absurd (not-suc-le-zero a)
-      go (suc p) (suc left) a b r = rw (lt-ltb p size (omega arith)) (rw (sub-one (suc left), sub-one (suc p)) at r)
-
-  -- one entry more
-  pub pass-more : (table outputs : List ℕ) (m left : ℕ) → ListPasses size links table (get_or outputs (left - 1) 0)
-      → PassFrom size links table outputs m left → PassFrom size links table outputs m (left - 1)
-  pass-more table outputs m left h f i l b = elim (ℕ_discrete i (left - 1)) [ yes e ↦ rw e h | no d ↦ f i (omega arith) b ]
 
 -- lane i is filled
 pub filled-turn : (size : ℕ) (links table outputs : List ℕ) (m i : ℕ) (x : Lanes) (y : Lane) → length x.at ≡ 4 → length x.count ≡ 4 → i < 4

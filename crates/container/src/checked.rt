@@ -1,5 +1,6 @@
-// The sheet that is painted: clusters whose size, buffers and counts have passed the checks before those of the entries.
-ghost use Rattle.std.specs.Prelude.{◌≡◌, ◌+◌, ◌*◌, ◌≤◌, ◌<◌, length, IfOk};
+// The sheet that is painted: clusters whose size, buffers and counts have passed the checks that come before the
+// entries.
+ghost use Rattle.std.specs.Prelude.{◌≡◌, ◌*◌, ◌≤◌, ◌<◌, length, IfOk};
 ghost use Rattle.rules.specs.Refusals.{limit, paint_answer};
 ghost use Rattle.rules.specs.Layout.{slot_width};
 ghost use Rattle.rules.specs.Paint.{slot_number};

@@ -23,10 +23,7 @@ pub(crate) fn paint_pixel(picture: &mut [u8], p: usize, c: Color)
     ensures { picture.new ≡ paint_pixel (color_of c) p picture.old }
 {
     let b = 4 * p;
-    picture[b] = c.r;
-    picture[b + 1] = c.g;
-    picture[b + 2] = c.b;
-    picture[b + 3] = c.a;
+    picture[b..b + 4].copy_from_slice(&[c.r, c.g, c.b, c.a]);
 }
 
 impl Sheet<'_> {
@@ -82,7 +79,8 @@ impl Sheet<'_> {
         requires middle { Leads self.size self.links.now at.x (count / 2) at.y }
         requires ahead { T (reads self.size self.links.now at.z ahead) }
         ensures ahead { let s = self.entry in Leads s.size s.links.now at.z ahead result }
-        ensures painted { let s = self.entry in picture.new ≡ paint_along (color_of c) s.links.now at.x count picture.old }
+        ensures painted { let s = self.entry in picture.new
+            ≡ paint_along (color_of c) s.links.now at.x count picture.old }
     {
         let half = count / 2;
         let both = half.min(ahead);

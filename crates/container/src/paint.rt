@@ -1,5 +1,5 @@
 // Painting: checks 8, 9 and 10 of every entry in their order, and the entries painted.
-ghost use Rattle.std.specs.Prelude.{◌≡◌, ◌+◌, ◌-◌, ◌*◌, ◌/◌, ◌≤◌, ◌<◌, T, length, get_or};
+ghost use Rattle.std.specs.Prelude.{◌≡◌, ◌-◌, ◌*◌, ◌/◌, ◌≤◌, ◌<◌, T, length, get_or};
 ghost use Rattle.rules.specs.Base.{times_back};
 ghost use Rattle.rules.specs.Color.{has_average, average};
 ghost use Rattle.rules.specs.Paint as rules;

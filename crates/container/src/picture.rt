@@ -1,5 +1,5 @@
 // The picture: the quick checks, the plain one where they do not decide, and then the entries.
-ghost use Rattle.std.specs.Prelude.{◌≡◌, true, ℕ, ◌-◌, ◌*◌, ◌≤◌, ◌<◌, T, length, get_or};
+ghost use Rattle.std.specs.Prelude.{◌≡◌, true, ℕ, ◌*◌, ◌≤◌, ◌<◌, T, length, get_or};
 ghost use Rattle.rules.specs.Color.{has_average, average};
 ghost use Rattle.rules.specs.Paint as rules;
 ghost use Rattle.refusal.specs.Refusal.{answer_of};

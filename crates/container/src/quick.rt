@@ -23,7 +23,7 @@ impl Sheet<'_> {
     }
 }
 
-// The rest of a list, its next pixel, plus one, and how many pixels it has. `left` entries have not been taken.
+// The rest of a list: its next pixel, plus one, and how many pixels it has. `left` entries have not been taken.
 #[derive(Clone, Copy)]
 struct Lane {
     at: u32,
@@ -40,8 +40,8 @@ struct Lanes {
 }
 
 impl Numbered<'_> {
-    // A lane that holds count pixels from at; where count is 0, it takes the next entry that has pixels, from the last
-    // of `left` entries down.
+    // The lane; where it has no pixel left, it takes the next entry that has pixels, from the last of `left` entries
+    // down.
     fn filled(self, lane: Lane) -> Lane
         requires { lane.left ≤ self.sheet.m }
         ensures left { result.left ≤ lane.left }

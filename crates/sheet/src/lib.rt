@@ -1,5 +1,5 @@
-// Rows of a picture, and the stored sheet. The buffers may be any, also such that no run made: a refused call answers the
-// first check that failed, and changes nothing.
+// Rows of a picture, and the stored sheet. The buffers may be any, also such that no run made: a refused call answers
+// the first check that failed, and changes nothing.
 #![tactic(auto)]
 
 mod stored;

@@ -15,7 +15,8 @@ use refusal::Refusal;
 // The largest number of two bytes.
 const LARGEST: u32 = 65535;
 
-// Whether one of the numbers takes more than two bytes. All are looked at: the compiler then compares several at a time.
+// Whether one of the numbers takes more than two bytes. All are looked at: the compiler then compares several at
+// a time.
 fn has_large(numbers: &[u32]) -> bool
     ensures { result ≡ is_large numbers.now }
 {

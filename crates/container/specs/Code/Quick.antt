@@ -20,8 +20,8 @@ ListPasses size links table k =
 abbrev pub PassFrom : ℕ → List ℕ → List ℕ → List ℕ → ℕ → ℕ → Type 0
 PassFrom size links table outputs m left = (i : ℕ) → left ≤ i → i < m → ListPasses size links table (get_or outputs i 0)
 
--- If the rest that lane y holds can be read, so can that which lane x held before, and the lists of the entries that were
--- taken since.
+-- If the rest that lane y holds can be read, so can that which lane x held before, and the lists of the entries that
+-- were taken since.
 abbrev pub LanePasses : List ℕ → List ℕ → Lane → Lane → Type 0
 LanePasses table outputs x y =
     (size : ℕ) (links : List ℕ) → T (reads size links y.at y.count)

@@ -1,4 +1,4 @@
-use Rattle.std.proofs.Common.{ℕ, Bool, false, rules, tests, ◌∙◌, ltb, ◌||◌}
+use Rattle.std.proofs.Common.{false, rules, tests, ◌∙◌, ltb, ◌||◌}
 use Rattle.std.proofs.lemmas.Iterator.{YieldsList-from_slice}
 use Rattle.std.proofs.lemmas.Iterator.Consumers.{fold_from_yields_List}
 use Rattle.sheet.proofs.Bytes.{fold-large}
