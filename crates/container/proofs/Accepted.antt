@@ -1,37 +1,18 @@
 -- What the passed checks of painting show. Assumes nothing.
 use mathlib.Core.Path.{◌≡◌}
-use mathlib.Core.Bool.{false, ◌||◌}
+use mathlib.Core.Bool.{◌||◌}
 use mathlib.Core.List.{[], ◌∷◌, ◌++◌}
 use Prim.Native.Nat.{ℕ, ◌*◌, ◌≤◌, ◌<◌}
 use native.Mathlib.Omega.{arith}
-use borrow.Author.Tests.{ne_eqb, eqb-true, not-false, ltb-false}
+use borrow.Author.Tests.{eqb-true, not-false, ltb-false}
 use lib.Dec.{eqb, ltb}
 use Rattle.rules.specs.Layout.{slot_width}
 use Rattle.std.specs.Prelude.{if◌then◌else◌}
 use Rattle.rules.specs.Refusals.{refusal, first_failed, size_checks, limit, short_sheet, bad_counts, not_four_each, paint_answer}
 use Rattle.rules.proofs.Accepted.{passed, neither, long-sheet, good-counts, good-size, failed-later}
+use Rattle.refusal.proofs.Laws.{refused-number}
 use Rattle.refusal.specs.Refusal.{number_of}
 use Rattle.refusal.specs.declared.Refusal.{Refusal}
-use Rattle.refusal.specs.declared.Refusal.TheVariants.{Shift, NoPixels, TooManyPixels, ImageLength, BufferLength, PictureLength, SumTooLarge, NoSlot, NoAverage, BadList, NoRow, LargeNumber, DestinationLength}
-
--- no refusal has the number 0
-refused-some : (r : Refusal) → 0 < number_of r
-refused-some Shift = omega arith
-refused-some NoPixels = omega arith
-refused-some TooManyPixels = omega arith
-refused-some ImageLength = omega arith
-refused-some BufferLength = omega arith
-refused-some PictureLength = omega arith
-refused-some SumTooLarge = omega arith
-refused-some NoSlot = omega arith
-refused-some NoAverage = omega arith
-refused-some BadList = omega arith
-refused-some NoRow = omega arith
-refused-some LargeNumber = omega arith
-refused-some DestinationLength = omega arith
-
-pub refused-number : (r : Refusal) → eqb (number_of r) 0 ≡ false
-refused-number r = ne_eqb (number_of r) 0 (λ e. let s = refused-some r in omega arith)
 
 -- what a sheet and its picture must have; links, table, outputs and picture are lengths
 pub record CanPaint (size n m links table outputs picture : ℕ) : Type 0 where

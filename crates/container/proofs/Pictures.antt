@@ -13,7 +13,7 @@ use Rattle.container.specs.Code.Covered.{Whole}
 use Rattle.container.specs.Code.Quick.{ListPasses}
 use Rattle.refusal.specs.Refusal.{number_of}
 use Rattle.refusal.specs.declared.Refusal.{Refusal}
-use Rattle.container.proofs.Accepted.{refused-number}
+use Rattle.refusal.proofs.Laws.{refused-number}
 use Rattle.container.proofs.Leads.{leads-reads}
 use Rattle.container.proofs.Entries.{back-turn}
 use Rattle.container.proofs.Covered.{whole-fill}

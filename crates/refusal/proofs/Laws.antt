@@ -8,20 +8,20 @@ use Rattle.refusal.specs.declared.Refusal.TheVariants.{LargeNumber, DestinationL
 use Rattle.refusal.specs.Refusal.{number_of}
 
 -- a refusal is no acceptance
-pub refusal-number : (r : Refusal) → nat_eq (number_of r) 0 ≡ false
-refusal-number Shift = refl
-refusal-number NoPixels = refl
-refusal-number TooManyPixels = refl
-refusal-number ImageLength = refl
-refusal-number BufferLength = refl
-refusal-number PictureLength = refl
-refusal-number SumTooLarge = refl
-refusal-number NoSlot = refl
-refusal-number NoAverage = refl
-refusal-number BadList = refl
-refusal-number NoRow = refl
-refusal-number LargeNumber = refl
-refusal-number DestinationLength = refl
+pub refused-number : (r : Refusal) → nat_eq (number_of r) 0 ≡ false
+refused-number Shift = refl
+refused-number NoPixels = refl
+refused-number TooManyPixels = refl
+refused-number ImageLength = refl
+refused-number BufferLength = refl
+refused-number PictureLength = refl
+refused-number SumTooLarge = refl
+refused-number NoSlot = refl
+refused-number NoAverage = refl
+refused-number BadList = refl
+refused-number NoRow = refl
+refused-number LargeNumber = refl
+refused-number DestinationLength = refl
 
 pub refused-ne0 : (r : Refusal) → number_of r ≡ 0 → ⊥
-refused-ne0 r e = true≢false (sym (eq-eqb _ _ e) ∙ refusal-number r)
+refused-ne0 r e = true≢false (sym (eq-eqb _ _ e) ∙ refused-number r)

@@ -4,7 +4,7 @@ use lib.ListN.{length}
 use Rattle.rules.specs.Refusals.{paint_answer}
 use Rattle.rules.specs.Calls.{paint_call}
 use Rattle.refusal.specs.Refusal.{number_of, answer_of}
-use Rattle.container.proofs.Accepted.{refused-number}
+use Rattle.refusal.proofs.Laws.{refused-number}
 use Rattle.container.proofs.to_color_image.Goals as goal
 
 pub returns-in_err-checked : goal.returns-in_err-checked

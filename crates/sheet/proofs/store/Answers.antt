@@ -6,7 +6,8 @@ use Rattle.rules.specs.Refusals.{store_answer}
 use Rattle.rules.specs.Stored.{stored_numbers, is_large}
 use Rattle.rules.specs.Calls.{store_call}
 use Rattle.refusal.specs.Refusal.{number_of, answer_of}
-use Rattle.sheet.proofs.Accepted.{store-accepted, refused-number}
+use Rattle.sheet.proofs.Accepted.{store-accepted}
+use Rattle.refusal.proofs.Laws.{refused-number}
 use Rattle.sheet.proofs.store.Goals as goal
 use Rattle.sheet.proofs.store.Goals.{In_ok-check}
 

@@ -1,7 +1,7 @@
 use mathlib.Core.Path.{◌≡◌, ◌∙◌}
 use Rattle.std.proofs.Common.{rules}
 use Rattle.refusal.specs.Refusal.{number_of, answer_of}
-use Rattle.container.proofs.Accepted.{refused-number}
+use Rattle.refusal.proofs.Laws.{refused-number}
 use Rattle.container.proofs.Entries.{entries-turn, entries_none}
 use Rattle.container.proofs.checked.Sheet.check_entries.Goals as goal
 
