@@ -401,7 +401,7 @@ class Declared(unittest.TestCase):
         self.assertEqual(sorted(tidy), sorted(expected))
 
     def test_the_answer_is_the_library_s(self):
-        source = (ROOT / "crates/runner/src/lib.rt").read_text()
+        source = (ROOT / "crates/color_clusters/src/exports.rt").read_text()
         fields = re.search(r"pub struct Answer \{([^}]*)\}", source).group(1)
         ours = [in_c(field) for field in re.findall(r"(\w+: \w+),", fields)]
         theirs = re.search(r"typedef struct \{([^}]*)\} color_clusters_answer;", HEADER).group(1)

@@ -35,7 +35,7 @@ pub enum KeyingAction {
 }
 
 // `hierarchical` of a run that deepens.
-pub const HIERARCHICAL_MAX: u32 = u32::MAX;
+pub const HIERARCHICAL_MAX: u32 = 4294967295;
 
 // The settings, with the Rust's names. The shift is `is_same_color_a`; the key (0,0,0,0) turns keying off.
 #[derive(Clone, Copy)]
