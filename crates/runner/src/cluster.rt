@@ -9,6 +9,9 @@ ghost use Rattle.runner.specs.Code.Slots.{sum_at};
 ghost use Rattle.runner.specs.Code.Neighbours.{place_label, diff_from, with_neighbour, Scan, noted, noted_four};
 ghost use Rattle.runner.specs.Code.Neighbours.{Averaged, Notable, Scannable, Found};
 
+use super::builder::Builder;
+use super::input::Input;
+use super::slot;
 use color::Color;
 use image::layout;
 
@@ -208,32 +211,29 @@ fn look(
 
 // The neighbours of cluster k, each marked with the number of the visit.
 pub(crate) fn neighbours(
-    labels: &[u32],
-    links: &[u32],
-    table: &[u32],
+    b: &Builder,
     marks: &mut [u32],
-    w: u32,
-    h: u32,
+    input: Input,
     k: u32,
     visit: u32,
 ) -> Nearest
-    requires { Scannable labels.now links.now table.now marks.old w h k visit }
-    ensures { Found labels.now links.now table.now w h k visit result
+    requires { Scannable b.now.labels.now b.now.links.now b.now.table.now marks.old input.w input.h k visit }
+    ensures { Found b.now.labels.now b.now.links.now b.now.table.now input.entry.w input.entry.h k visit result
         marks.new }
 {
-    let b = layout::SLOT_WIDTH * (k as usize);
-    let mine = color(table, k);
-    let mut at = table[b + layout::FIRST_PIXEL];
-    let count = table[b + layout::PIXEL_COUNT];
+    let mine = color(b.table, k);
+    let mut at = slot::first_pixel(b.table, k);
     let mut found = Nearest {
         count: 0,
         target: 0,
         diff: 0,
     };
-    for _ in 0..count {
+    for _ in 0..b.count_of(k) {
         let p = at - 1;
-        found = look(labels, table, marks, w, h, visit, k, mine, p, found);
-        at = links[p as usize];
+        found = look(
+            b.labels, b.table, marks, input.w, input.h, visit, k, mine, p, found,
+        );
+        at = b.links[p as usize];
     }
     found
 }

@@ -83,7 +83,7 @@ module _ (labels links table marks : List ℕ) (w h k visit : ℕ) (S : Scannabl
   }
 
 -- the pixel of a turn
-here : (c : In-loop) → let a = c.args in Step (a.w * a.h) a.links.now c.loop.at (get_or a.table.now (slot_width * a.k + pixel_count_place) 0 - c.loop.counter)
+here : (c : In-loop) → let a = c.args in Step (a.input.w * a.input.h) a.b.now.links.now c.loop.at (get_or a.b.now.table.now (slot_width * a.k + pixel_count_place) 0 - c.loop.counter)
 here c = step _ _ _ _ (omega arith) c.loop.invariant.readable
 
 pub overflow_sub-p : goal.overflow_sub-p
@@ -96,12 +96,12 @@ look-found-requires c =
     let a = asks _ _ _ _ _ _ _ _ S _ _ _ _ (omega arith) refl c.loop.invariant in
     record { w_nonzero = (S.width, omega (arith, at.some, at.within), S.labelled, S.small); by_index = a.0; count_bound = a.1 }
 
-pub bounds-links-p : goal.bounds-links-p
-bounds-links-p c = omega (arith, (here (goal.at.bounds-links-p c).In-loop).some, (here (goal.at.bounds-links-p c).In-loop).within, c.requires.linked)
+pub bounds-b-p : goal.bounds-b-p
+bounds-b-p c = omega (arith, (here (goal.at.bounds-b-p c).In-loop).some, (here (goal.at.bounds-b-p c).In-loop).within, c.requires.linked)
 
 pub loop-preserved : goal.loop-preserved
 loop-preserved c =
-    let count = get_or c.args.table.now (slot_width * c.args.k + pixel_count_place) 0 in
+    let count = get_or c.args.b.now.table.now (slot_width * c.args.k + pixel_count_place) 0 in
     let e : count - (c.loop.counter + 1) ≡ count - c.loop.counter - 1 = omega arith in
     rw e (turn _ _ _ _ _ _ _ _ c.requires _ _ _ _ _ _ (omega arith) refl c.color-mine.ensures c.look-found.ensures c.loop.invariant)
 

@@ -35,8 +35,8 @@ module _ (o : RunnerConfig) (image labels links : List ℕ) (w h k first area d 
   passed z = rw (← e) (and-passed (eqb o.hierarchical hierarchical_max) _ x z)
 
 -- what `exceeds` answered, of the setting itself
-told : (c : After-exceeds) → (let a = c.args in c.exceeds.result ≡ exceeds a.diff a.o.deepen_diff)
-told c = let z = c.args.o.deepen_diff in
+told : (c : After-exceeds) → (let a = c.args in c.exceeds.result ≡ exceeds a.diff a.input.o.deepen_diff)
+told c = let z = c.args.input.o.deepen_diff in
     let same : to_z w32 (of_z w32 z) ≡ z = search rules in
     c.exceeds.ensures ∙ ap (exceeds _) same
 

@@ -31,11 +31,11 @@ module _ (o : RunnerConfig) (image labels links : List ℕ) (w h k first area : 
   unfolding patch_good_at
   passed z a = rw (← a) (and-passed (ltb o.good_min_area area && ltb area o.good_max_area) _ z)
 
-pub returns-then-not-o-area : goal.returns-then-not-o-area
-returns-then-not-o-area c = refused _ _ _ _ _ _ _ _ _ c.if-not-o-area.true
+pub returns-then-not-o-e : goal.returns-then-not-o-e
+returns-then-not-o-e c = refused _ _ _ _ _ _ _ _ _ c.if-not-o-e.true
 
 pub returns-then-o-eq0 : goal.returns-then-o-eq0
-returns-then-o-eq0 c = passed _ _ _ _ _ _ _ _ _ c.if-not-o-area.false (eq-eqb _ _ c.if-o-eq0.true)
+returns-then-o-eq0 c = passed _ _ _ _ _ _ _ _ _ c.if-not-o-e.false (eq-eqb _ _ c.if-o-eq0.true)
 
 pub returns : goal.returns
-returns c = c.has_interior.ensures ∙ passed _ _ _ _ _ _ _ _ _ c.if-not-o-area.false (ne_eqb _ _ c.if-o-eq0.false)
+returns c = c.has_interior.ensures ∙ passed _ _ _ _ _ _ _ _ _ c.if-not-o-e.false (ne_eqb _ _ c.if-o-eq0.false)
