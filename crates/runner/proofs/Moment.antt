@@ -117,8 +117,6 @@ module _ {o : RunnerConfig} {w h : ℕ} {image : List ℕ} {q : Queue} {k : ℕ}
     -- the scan for its neighbours
     pub scannable : (M : List ℕ) → length M ≡ w * h + 1 → (v : ℕ) → ((j : ℕ) → get_or M j 0 < v) → Scannable L K B M w h k v
     scannable M wide v low = record {
-      width = A.image-fits.columns;
-      small = omega (arith, A.image-fits.small);
       labelled = omega (arith, rep-labels-length going.sound.basic R);
       linked = omega (arith, rep-links-length going.sound.basic R);
       own = averaged k (get_or (cluster s k).pixels 0 0) (visits.stands (area (cluster s k)) k s going some-pixels refl);

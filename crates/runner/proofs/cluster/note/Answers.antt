@@ -18,13 +18,13 @@ counted : (key : ℕ → ℕ) (own visit l : ℕ) (marks : List ℕ) (found : Ne
 unfolding noted
 counted key own visit l marks found e f g h = rw (e, ne_eqb (get_or marks l 0) visit f, ← g) (ap (λ x. record { marks = set marks l visit; nearest = x }) h)
 
-pub returns-then-l-own : goal.returns-then-l-own
+pub returns-then-l-v : goal.returns-then-l-v
 unfolding noted
-returns-then-l-own c = rw c.if-l-own.true
+returns-then-l-v c = rw c.if-l-v.true
 
 pub returns-then-marks-l : goal.returns-then-marks-l
 unfolding noted
-returns-then-marks-l c = rw (c.if-l-own.false, eq-eqb _ _ c.if-marks-l.true)
+returns-then-marks-l c = rw (c.if-l-v.false, eq-eqb _ _ c.if-marks-l.true)
 
 pub returns : goal.returns
-returns c = counted _ _ _ _ _ _ c.if-l-own.false c.if-marks-l.false (c.color_diff.ensures ∙ ap (color_diff (color_of c.args.mine)) c.color.ensures) c.with.ensures
+returns c = counted _ _ _ _ _ _ c.if-l-v.false c.if-marks-l.false (c.color_diff.ensures ∙ ap (color_diff (color_of c.args.v.mine)) c.color.ensures) c.with.ensures
