@@ -34,17 +34,11 @@ fn surrounded(b: &Builder, input: Input, k: u32, p: u32) -> bool
         (sides input.entry.w input.entry.h p) }
 {
     let (w, h) = (input.w, input.h);
-    if p < w {
-        return false;
-    }
-    if w * h <= p + w {
+    if p < w || w * h <= p + w {
         return false;
     }
     let x = p % w;
-    if x == 0 {
-        return false;
-    }
-    if w <= x + 1 {
+    if x == 0 || w <= x + 1 {
         return false;
     }
     let up = in_list(b, input, k, p - w);

@@ -89,6 +89,7 @@ fn exceeds(d: u32, z: i32) -> bool
 
 // Whether the cluster of an entry may stay a patch, after `patch_good` of runner.rs: a boundary smaller than the area is
 // told by one pixel inside.
+#[tactic(auto, unfolding(crate::specs::Code::Stage2::patch_good_at))]
 fn patch_good(b: &Builder, input: Input, e: Entry) -> bool
     requires slot { InTable e.slot b.now.table.now }
     requires pixels { (input.w * input.h ≡ length b.now.labels.now) × (input.w * input.h ≤ length b.now.links.now) }
@@ -100,16 +101,13 @@ fn patch_good(b: &Builder, input: Input, e: Entry) -> bool
         (get_or b.now.table.now (slot_width * e.slot + first_pixel_place) 0) e.key }
 {
     let o = input.o;
-    if !((o.good_min_area < e.key) & (e.key < o.good_max_area)) {
-        return false;
-    }
-    if o.good_min_area == 0 {
-        return true;
-    }
-    geometry::has_interior(b, input, e)
+    o.good_min_area < e.key
+        && e.key < o.good_max_area
+        && (o.good_min_area == 0 || geometry::has_interior(b, input, e))
 }
 
 // Whether it deepens into a neighbour of difference diff.
+#[tactic(auto, unfolding(crate::specs::Code::Stage2::deepens_at))]
 fn deepens(b: &Builder, input: Input, e: Entry, diff: u32) -> bool
     requires slot { InTable e.slot b.now.table.now }
     requires pixels { (input.w * input.h ≡ length b.now.labels.now) × (input.w * input.h ≤ length b.now.links.now) }
@@ -122,10 +120,7 @@ fn deepens(b: &Builder, input: Input, e: Entry, diff: u32) -> bool
         (get_or b.now.table.now (slot_width * e.slot + first_pixel_place) 0) e.key diff }
 {
     let o = input.o;
-    if !((o.hierarchical == HIERARCHICAL_MAX) & exceeds(diff, o.deepen_diff)) {
-        return false;
-    }
-    patch_good(b, input, e)
+    o.hierarchical == HIERARCHICAL_MAX && exceeds(diff, o.deepen_diff) && patch_good(b, input, e)
 }
 
 // Cluster k is put out.
@@ -201,14 +196,16 @@ fn merge_into_nearest(
 }
 
 // A cluster without neighbours is put out if none is larger, or if keying is on with Discard; else it is passed over.
+#[tactic(auto, unfolding(rules::specs::Color::discards))]
 fn isolated(staged: &mut [u32], o: RunnerConfig, t: Turns, e: Entry) -> Turns
     requires { CanPut t.m staged.old }
     ensures { Put (goes_out (config_of o) t.largest e.key) e.slot t result staged.old staged.new }
 {
-    if (t.largest <= e.key) | (keying::keying_on(o) & keying::is_discard(o)) {
-        return put_out(staged, t, e.slot);
+    if t.largest <= e.key || (keying::keying_on(o) && keying::is_discard(o)) {
+        put_out(staged, t, e.slot)
+    } else {
+        t
     }
-    t
 }
 
 // The slot of an entry is visited. A cluster of all pixels has no neighbour, and its list need not be read.
