@@ -63,12 +63,13 @@ pub(crate) struct Nearest {
 
 impl Nearest {
     // With one more neighbour, of number l and difference d.
+    #[tactic(auto, unfolding(crate::specs::Code::Neighbours::with_neighbour))]
     fn with(self, l: u32, d: u32) -> Nearest
         requires { self.count < 4294967295 }
         ensures { result ≡ with_neighbour self l d }
     {
         let n = self.count + 1;
-        if (self.count == 0) | (d < self.diff) | ((d == self.diff) & (l < self.target)) {
+        if self.count == 0 || d < self.diff || (d == self.diff && l < self.target) {
             return Nearest {
                 count: n,
                 target: l,
@@ -88,6 +89,7 @@ struct Visit {
 }
 
 // The label l counts as a neighbour if it is neither 0 nor own, nor marked in this visit.
+#[tactic(auto, unfolding(crate::specs::Code::Neighbours::noted))]
 fn note(b: &Builder, marks: &mut [u32], v: Visit, l: u32, found: Nearest) -> Nearest
     requires notable { l ≢ 0 → Notable b.now.table.now (length marks.old) l }
     requires count_bound { found.count < 4294967295 }
@@ -95,10 +97,7 @@ fn note(b: &Builder, marks: &mut [u32], v: Visit, l: u32, found: Nearest) -> Nea
         ≡ noted (diff_from b.now.table.now (color_of v.mine)) v.own v.number l
         (record { marks = marks.old; nearest = found }) }
 {
-    if (l == 0) | (l == v.own) {
-        return found;
-    }
-    if marks[l as usize] == v.number {
+    if l == 0 || l == v.own || marks[l as usize] == v.number {
         return found;
     }
     marks[l as usize] = v.number;
@@ -115,7 +114,7 @@ fn is_inside(b: &Builder, input: Input, own: u32, p: u32) -> bool
 {
     let i = p as usize;
     let row = input.w as usize;
-    if (i < row) | (b.labels.len() <= i + row) {
+    if i < row || b.labels.len() <= i + row {
         return false;
     }
     (b.labels[i - row] == own)

@@ -19,10 +19,7 @@ fn in_list(b: &Builder, input: Input, k: u32, q: u32) -> bool
     requires { (q < input.w * input.h) × (input.w * input.h ≡ length b.now.labels.now) }
     ensures { result ≡ in_list (config_of input.entry.o) input.entry.image.now b.now.labels.now k q }
 {
-    if b.labels[q as usize] == k {
-        return !keying::is_discarded(input.image, input.o, q);
-    }
-    false
+    b.labels[q as usize] == k && !keying::is_discarded(input.image, input.o, q)
 }
 
 // Whether pixel p has its four neighbours in the list of cluster k.
@@ -34,18 +31,15 @@ fn surrounded(b: &Builder, input: Input, k: u32, p: u32) -> bool
         (sides input.entry.w input.entry.h p) }
 {
     let (w, h) = (input.w, input.h);
-    if p < w || w * h <= p + w {
-        return false;
-    }
     let x = p % w;
-    if x == 0 || w <= x + 1 {
-        return false;
-    }
-    let up = in_list(b, input, k, p - w);
-    let down = in_list(b, input, k, p + w);
-    let left = in_list(b, input, k, p - 1);
-    let right = in_list(b, input, k, p + 1);
-    up & down & left & right
+    w <= p
+        && p + w < w * h
+        && 0 < x
+        && x + 1 < w
+        && in_list(b, input, k, p - w)
+        && in_list(b, input, k, p + w)
+        && in_list(b, input, k, p - 1)
+        && in_list(b, input, k, p + 1)
 }
 
 // Whether some pixel of the list of an entry's cluster has its four neighbours in that list.
