@@ -9,7 +9,7 @@ use native.Mathlib.Omega.{arith}
 use borrow.Author.Tests.{ltb-false}
 use lib.Dec.{ltb}
 use lib.IntN.{pos}
-use lib.ListN.{length, get_or, take, drop, replicate, length-replicate}
+use lib.ListN.{length, get_or, take, drop, replicate}
 use lib.Seq.{length-take-le, get_or-take, ext_get_or}
 use Rattle.rules.specs.Base.{keep}
 use Rattle.rules.specs.Color.{RunnerConfig}
@@ -28,10 +28,8 @@ use Rattle.rules.proofs.Order.{drained-stage2}
 use Rattle.rules.proofs.Ranges.{turns-ranged}
 use Rattle.runner.specs.Code.Outputs.{counted}
 use Rattle.runner.specs.Code.Rep.{Table, slots_of}
-use Rattle.runner.specs.Code.Given.{Given}
-use Rattle.runner.specs.Code.Stage1.{Holding, Blank}
-use Rattle.runner.specs.Code.Stage2.{Image, Entered, Staged}
-use Rattle.runner.specs.Code.Calls.{Blanked, CanRun, Clustered}
+use Rattle.runner.specs.Code.Stage2.{Staged}
+use Rattle.runner.specs.Code.Calls.{Clustered}
 use Rattle.runner.proofs.Tables.{sum-at, table-over}
 
 -- ---- stage 1
@@ -45,35 +43,6 @@ zeros-at (suc n) (suc j) = zeros-at n j
 -- a shift that is not refused
 shift-narrow : {n : ℕ} → bad_shift (pos n) ≡ false → n < 8
 shift-narrow {n} e = omega (arith, ltb-false 7 n e)
-
--- an image, from what is known of what is given
-pub image-of : {o : RunnerConfig} {w h : ℕ} {image : List ℕ} {shift : ℕ} → Given o w h image shift → Image w h image
-image-of G = record { columns = G.columns; small = G.small; whole = G.whole; bytes = G.bytes }
-
--- what stage 1 asks and leaves, when labels, links and marks are blank
-module _ {size : ℕ} {L K B E Q M S L₁ K₁ B₁ E₁ Q₁ M₁ S₁ : List ℕ} (R : CanRun size L K B E Q M S) (D : Blanked L K B E Q M S L₁ K₁ B₁ E₁ Q₁ M₁ S₁) where
-  pub stage-1-asks : length E₁ ≡ length E → Blank size L₁ K₁ B₁ E₁
-  stage-1-asks e = record {
-    labels = D.labels ∙ ap (λ n. replicate n 0) R.labels;
-    links = D.links ∙ ap (λ n. replicate n 0) R.links;
-    table = rw D.table R.table;
-    ends = e ∙ R.ends;
-  }
-
-module _ {o : RunnerConfig} {w h : ℕ} {image : List ℕ} {shift : ℕ} (G : Given o w h image shift) {L K B E Q M S L₁ K₁ B₁ E₁ Q₁ M₁ S₁ : List ℕ}
-    (R : CanRun (w * h) L K B E Q M S) (D : Blanked L K B E Q M S L₁ K₁ B₁ E₁ Q₁ M₁ S₁) where
-  pub labelled : length Q₁ ≡ length Q → length S₁ ≡ length S → {L' K' B' E' : List ℕ} {next count : ℕ} → Holding (w * h) (stage1 o w h image) B₁ L' K' B' E' next count
-      → Entered o w h image B L' K' B' E' Q₁ M₁ S₁ count
-  labelled e d H = record {
-    image-fits = image-of G;
-    rep = rw D.table at H.rep;
-    slots = H.slots;
-    table_fits = R.table;
-    queue-long = e ∙ R.queue;
-    marks-long = ap length D.marks ∙ length-replicate (length M) 0 ∙ R.marks;
-    staged-long = d ∙ R.staged;
-    marks = λ j. ap (λ z. get_or z j 0) D.marks ∙ zeros-at (length M) j;
-  }
 
 -- ---- the end
 

@@ -14,6 +14,7 @@ use Rattle.rules.proofs.Whole.{early}
 use Rattle.rules.proofs.Ranges.{turns-ranged}
 use Rattle.rules.specs.Layout.{slot_width}
 use Rattle.rules.specs.Code.Bounds.{count_bound}
+use Rattle.runner.specs.Code.Given.{Given}
 use Rattle.runner.specs.Code.Rep.{Table, slots_of}
 use Rattle.runner.specs.Code.Queue.{Sized, Built, queue_key}
 use Rattle.runner.specs.Code.Stage2.{Prepared, Between, Entered}
@@ -25,7 +26,7 @@ unfolding largest with_residue
 largest-same [] = refl
 largest-same (c ∷ cs) = ap (max (area c)) (largest-same cs)
 
-module _ {o : RunnerConfig} {w h : ℕ} {image t₀ L K B E Q M S : List ℕ} {n : ℕ} (N : Entered o w h image t₀ L K B E Q M S n) where
+module _ {o : RunnerConfig} {w h : ℕ} {image : List ℕ} {shift : ℕ} (G : Given o w h image shift) {t₀ L K B E Q M S : List ℕ} {n : ℕ} (N : Entered o w h image t₀ L K B E Q M S n) where
   abbrev s : State
   s = stage1 o w h image
 
@@ -39,11 +40,11 @@ module _ {o : RunnerConfig} {w h : ℕ} {image t₀ L K B E Q M S : List ℕ} {n
   table_fits = omega (arith, few-slots, N.table_fits)
 
   pub preparing-fits : (slot_width * n ≤ length B) × (n ≤ length Q) × (n ≤ count_bound)
-  preparing-fits = (omega (arith, N.rep.tabled.long, table_fits), omega (arith, N.queue-long, few-slots), omega (arith, few-slots, N.image-fits.small))
+  preparing-fits = (omega (arith, N.rep.tabled.long, table_fits), omega (arith, N.queue-long, few-slots), omega (arith, few-slots, G.small))
 
   module _ {B' Q₁ : List ℕ} {top : ℕ} (P : Prepared n B Q B' Q₁ top) (e : length Q₁ ≡ length Q) where
     pub building : Sized n (w * h + 1) (length Q₁)
-    building = record { some = some-slots; within = few-slots; fits = omega (arith, e, N.queue-long); small = omega (arith, N.image-fits.small) }
+    building = record { some = some-slots; within = few-slots; fits = omega (arith, e, N.queue-long); small = omega (arith, G.small) }
 
     module _ {Q₂ : List ℕ} (D : Built Q₁ Q₂ n (w * h + 1)) (d : length Q₂ ≡ length Q₁) where
       key : (j : ℕ) → get_or (map area (prepare_stage2 s).clusters) j 0 ≡ area (cluster (prepare_stage2 s) j)
@@ -63,7 +64,6 @@ module _ {o : RunnerConfig} {w h : ℕ} {image t₀ L K B E Q M S : List ℕ} {n
       pub started : Between o w h image t₀ L K B' E Q₂ M S (record { n = n; m = 0; turns = 0; largest = top })
       unfolding turns start prepare_stage2
       started = record {
-        image-fits = N.image-fits;
         table_fits = N.table_fits;
         carried = record {
           queue-long = d ∙ e ∙ N.queue-long;
@@ -74,7 +74,7 @@ module _ {o : RunnerConfig} {w h : ℕ} {image t₀ L K B E Q M S : List ℕ} {n
           tree = D.tree;
           keyed = record {
             wide = length-map (prepare_stage2 s).clusters area ∙ slots ∙ sym N.slots;
-            below = λ j l. omega (arith, key j, (turns-ranged image N.image-fits.bytes o w h 0).areas j, N.image-fits.small);
+            below = λ j l. omega (arith, key j, (turns-ranged image G.bytes o w h 0).areas j, G.small);
             keyed = λ j l. D.keys j (omega (arith, few-slots)) ∙ P.keys s t₀ N.slots table_fits held j l ∙ ap queue_key (sym (key j ∙ area_same j));
           };
           marked = λ j. omega (arith, N.marks j);

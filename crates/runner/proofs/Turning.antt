@@ -14,13 +14,14 @@ use Rattle.rules.proofs.Order.{turns-few, turns-end}
 use Rattle.rules.proofs.Turns.{turn-ready, turns-table}
 use Rattle.runner.specs.declared.queue.Entry.{Entry}
 use Rattle.runner.specs.declared.stage2.Turns.{Turns}
+use Rattle.runner.specs.Code.Given.{Given}
 use Rattle.runner.specs.Code.Queue.{Sized, Tree, KeySet, NextPending}
 use Rattle.runner.specs.Code.Stage2.{Carried, queue_at, visit_at, Between, Chosen, Visiting, Visited, Staged}
 use Rattle.runner.proofs.Queues.{first_some, first-none}
 use Rattle.runner.proofs.Carried.{carried-queue}
-use Rattle.runner.proofs.Moment.{At, at}
+use Rattle.runner.proofs.Moment.{At, at, image-of}
 
-module _ {o : RunnerConfig} {w h : ℕ} {image t₀ L K B E Q M S : List ℕ} {t : Turns} (I : Between o w h image t₀ L K B E Q M S t) where
+module _ {o : RunnerConfig} {w h : ℕ} {image : List ℕ} {shift : ℕ} (G : Given o w h image shift) {t₀ L K B E Q M S : List ℕ} {t : Turns} (I : Between o w h image t₀ L K B E Q M S t) where
   -- ---- which slot is next
 
   slots-are : t.n ≡ length (stage1 o w h image).clusters
@@ -32,7 +33,7 @@ module _ {o : RunnerConfig} {w h : ℕ} {image t₀ L K B E Q M S : List ℕ} {t
       some = omega (arith, slots-are, (early o w h image).room, (early o w h image).some);
       within = omega (arith, slots-are, (early o w h image).short);
       fits = omega (arith, I.carried.queue-long);
-      small = omega (arith, I.image-fits.small);
+      small = omega (arith, G.small);
     },
     I.carried.tree,
   )
@@ -64,7 +65,7 @@ module _ {o : RunnerConfig} {w h : ℕ} {image t₀ L K B E Q M S : List ℕ} {t
     q = queue_at o w h image t.turns
 
     moment : At o w h image (queue_at o w h image t.turns) k
-    moment = at o w h image I.image-fits t.turns k C.picked
+    moment = at o w h image (image-of G) t.turns k C.picked
 
     pub turns-left : t.turns < 2 * (w * h)
     turns-left = turns-few o w h image t.turns k C.picked
@@ -77,11 +78,10 @@ module _ {o : RunnerConfig} {w h : ℕ} {image t₀ L K B E Q M S : List ℕ} {t
 
     -- slot k is taken off the queue
     pub taking-off : Sized t.n (w * h + 1) (length Q) × ((k < t.n) × Tree Q t.n (w * h + 1))
-    taking-off = (record { some = omega (arith, inside); within = few; fits = omega (arith, I.carried.queue-long); small = omega (arith, I.image-fits.small) }, (inside, I.carried.tree))
+    taking-off = (record { some = omega (arith, inside); within = few; fits = omega (arith, I.carried.queue-long); small = omega (arith, G.small) }, (inside, I.carried.tree))
 
     pub taken-off : (Q' : List ℕ) → length Q' ≡ length Q → KeySet Q Q' t.n (w * h + 1) k 4294967295 → Visiting o w h image t₀ L K B E Q' M S t k a t.turns
     taken-off Q' e N = record {
-      image-fits = I.image-fits;
       table_fits = I.table_fits;
       chosen = C;
       carried = carried-queue I.carried Q' e k 0 inside few (omega arith) N;
@@ -96,7 +96,6 @@ module _ {o : RunnerConfig} {w h : ℕ} {image t₀ L K B E Q M S : List ℕ} {t
     pub turned : {L' K' B' E' Q' M' S' : List ℕ} {r : Turns} → Visited o w h image t₀ L' K' B' E' Q' M' S' t r k
         → Between o w h image t₀ L' K' B' E' Q' M' S' (record { n = r.n; m = r.m; turns = r.turns + 1; largest = r.largest })
     turned {L'} {K'} {B'} {E'} {Q'} {M'} {S'} {r} D = record {
-      image-fits = I.image-fits;
       table_fits = I.table_fits;
       carried = subst (λ i. Carried (w * h) (queue_at o w h image (i + 1)).now (queue_at o w h image (i + 1)).keys t₀ L' K' B' E' Q' M' S' r.n r.m (i + 1)) (sym D.same)
           (subst (λ x. Carried (w * h) x.now x.keys t₀ L' K' B' E' Q' M' S' r.n r.m (t.turns + 1)) (sym next) D.carried);

@@ -23,6 +23,7 @@ use Rattle.rules.proofs.Order.{turns-few, rekey-still, rekey-moved}
 use Rattle.rules.specs.Code.Bounds.{capacity}
 use Rattle.runner.specs.declared.stage2.Turns.{Turns}
 use Rattle.runner.specs.declared.cluster.Nearest.{Nearest}
+use Rattle.runner.specs.Code.Given.{Given}
 use Rattle.runner.specs.Code.Ops.{CanMerge, Merged, CanDeepen, Deepened, CanHollow, Hollowed}
 use Rattle.runner.specs.Code.Queue.{KeySet, queue_key}
 use Rattle.runner.specs.Code.Neighbours.{diff_at, nearest_of, Scannable, list_at}
@@ -31,7 +32,7 @@ use Rattle.runner.proofs.Queues.{stored_some}
 use Rattle.runner.proofs.Tables.{count_at}
 use Rattle.runner.proofs.RepReads.{rep-labels-length, rep-links-length}
 use Rattle.runner.proofs.Carried.{carried-put, carried-queue, carried-lists, carried-marks, carried_later}
-use Rattle.runner.proofs.Moment.{At, at, going, some-pixels, diff-fits, slot-fits, list-reads, scannable, nearest-is, deepens-is}
+use Rattle.runner.proofs.Moment.{At, at, image-of, going, some-pixels, diff-fits, slot-fits, list-reads, scannable, nearest-is, deepens-is}
 use Rattle.runner.proofs.Merges.{can-merge, can-deepen, merged-rep, deepened-rep, can-hollow, hollowed-rep, target-slot}
 
 -- ---- the target's key
@@ -87,7 +88,7 @@ pub none-near : (key : ℕ → ℕ) (ns : List ℕ) → (nearest_of key ns).coun
 none-near key [] e = refl
 none-near key (x ∷ xs) e = absurd (omega arith)
 
-module _ {o : RunnerConfig} {w h : ℕ} {image t₀ L K B E Q M S : List ℕ} {t : Turns} {k a marks : ℕ} (X : Visiting o w h image t₀ L K B E Q M S t k a marks) where
+module _ {o : RunnerConfig} {w h : ℕ} {image : List ℕ} {shift : ℕ} (I : Given o w h image shift) {t₀ L K B E Q M S : List ℕ} {t : Turns} {k a marks : ℕ} (X : Visiting o w h image t₀ L K B E Q M S t k a marks) where
   abbrev q : Queue
   q = queue_at o w h image t.turns
 
@@ -95,13 +96,13 @@ module _ {o : RunnerConfig} {w h : ℕ} {image t₀ L K B E Q M S : List ℕ} {t
   s = (queue_at o w h image t.turns).now
 
   moment : At o w h image (queue_at o w h image t.turns) k
-  moment = at o w h image X.image-fits t.turns k X.chosen.picked
+  moment = at o w h image (image-of I) t.turns k X.chosen.picked
 
   pub few-turns : t.turns < 2 * (w * h)
   few-turns = turns-few o w h image t.turns k X.chosen.picked
 
   pub can-put : CanPut t.m S
-  can-put = record { few = omega (arith, X.carried.entries, moment.outputs, X.carried.staged-long); small = omega (arith, X.carried.staged-long, X.image-fits.small) }
+  can-put = record { few = omega (arith, X.carried.entries, moment.outputs, X.carried.staged-long); small = omega (arith, X.carried.staged-long, I.small) }
 
   -- its slot can be read
   pub own-fits : slot_width * k + slot_width ≤ length B
@@ -162,7 +163,6 @@ module _ {o : RunnerConfig} {w h : ℕ} {image t₀ L K B E Q M S : List ℕ} {t
 
   pub scanned : (M' : List ℕ) → length M' ≡ length M → ((j : ℕ) → get_or M' j 0 ≤ t.turns + 1) → Visiting o w h image t₀ L K B E Q M' S t k a (t.turns + 1)
   scanned M' e low = record {
-    image-fits = X.image-fits;
     table_fits = X.table_fits;
     chosen = X.chosen;
     carried = carried-marks X.carried M' e (t.turns + 1) low;
@@ -219,7 +219,7 @@ module _ {o : RunnerConfig} {w h : ℕ} {image t₀ L K B E Q M S : List ℕ} {t
       carried = subst (λ v. Carried (w * h) v (rekey k s v q.keys) t₀ L' K' B' E' Q' M S' r.n r.m (t.turns + 1)) (sym e)
           (subst (λ y. Carried (w * h) u y t₀ L' K' B' E' Q' M S' r.n r.m (t.turns + 1)) (sym keys)
           (subst (λ y. Carried (w * h) u (set (set q.keys k 0) to (area (cluster u to))) t₀ L' K' B' E' Q' M S' y.n y.m (t.turns + 1)) (sym G.turns)
-          (carried_later (carried-grown C X.image-fits.small few to held (omega (arith, count, some-pixels moment)) (omega (arith, count, moment.ranged.areas k, moment.ranged.areas to, X.image-fits.small)) refl G) (t.turns + 1) l)));
+          (carried_later (carried-grown C I.small few to held (omega (arith, count, some-pixels moment)) (omega (arith, count, moment.ranged.areas k, moment.ranged.areas to, I.small)) refl G) (t.turns + 1) l)));
       same = ap (λ y. y.turns) G.turns ∙ same;
       top = ap (λ y. y.largest) G.turns ∙ ap₂ max (most ∙ X.top) (count_at u C.rep.tabled to (omega (arith, held, C.slots))) ∙ sym top ∙ sym (ap (λ v. largest v.clusters) e);
     }
@@ -235,7 +235,7 @@ module _ {o : RunnerConfig} {w h : ℕ} {image t₀ L K B E Q M S : List ℕ} {t
 
     -- what the key asks
     grow-asks : (u : State) → Moved k near.target (queue_at o w h image t.turns).now u → {keys L' K' B' E' S' : List ℕ} {n m : ℕ} → Carried (w * h) u keys t₀ L' K' B' E' Q M S' n m marks → CanGrow (w * h + 1) n near.target B' Q
-    grow-asks u N C = can-grow C X.image-fits.small (omega (arith, C.slots, N.table, moment.ranged.slots)) to (omega (arith, inside, C.slots, N.table)) X.table_fits
+    grow-asks u N C = can-grow C I.small (omega (arith, C.slots, N.table, moment.ranged.slots)) to (omega (arith, inside, C.slots, N.table)) X.table_fits
 
     -- ---- a plain merge
 

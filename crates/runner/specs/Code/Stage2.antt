@@ -9,7 +9,7 @@ use Rattle.rules.specs.Stage2.{prepare_stage2, neighbours, rank}
 use Rattle.rules.specs.Stage2 as rules
 use Rattle.rules.specs.Run.{stage1}
 use Rattle.rules.specs.Code.Order as order
-use Rattle.rules.specs.Code.Bounds.{count_bound, capacity}
+use Rattle.rules.specs.Code.Bounds.{count_bound}
 use Rattle.runner.specs.declared.stage2.Turns.{Turns}
 use Rattle.runner.specs.declared.cluster.Nearest.{Nearest}
 use Rattle.runner.specs.Code.Slots.{head_at, saved_residue}
@@ -104,13 +104,6 @@ pub record Grown (room to : ℕ) (t r : Turns) (B Q Q' : List ℕ) : Type 0 wher
 
 -- ---- the turns of the rules in the buffers
 
--- an image of w columns and h rows
-pub record Image (w h : ℕ) (image : List ℕ) : Type 0 where
-  pub columns : 0 < w
-  pub small : w * h ≤ capacity
-  pub whole : length image ≡ 4 * (w * h)
-  pub bytes : (i : ℕ) → get_or image i 0 ≤ 255
-
 -- the state and the pending slots of the rules before turn i
 abbrev pub queue_at : RunnerConfig → ℕ → ℕ → List ℕ → ℕ → order.Queue
 queue_at o w h image i = order.turns o w h i (order.start (prepare_stage2 (stage1 o w h image)))
@@ -122,7 +115,6 @@ visit_at o w h image i k =
 
 -- the buffers hold what the rules have before turn i, and t the largest pixel count
 pub record Between (o : RunnerConfig) (w h : ℕ) (image t₀ L K B E Q M S : List ℕ) (t : Turns) : Type 0 where
-  pub image-fits : Image w h image
   pub table_fits : slot_width * (w * h + 1) ≤ length t₀
   pub carried : Carried (w * h) (queue_at o w h image t.turns).now (queue_at o w h image t.turns).keys t₀ L K B E Q M S
       t.n t.m t.turns
@@ -135,7 +127,6 @@ pub record Chosen (o : RunnerConfig) (w h : ℕ) (image : List ℕ) (i k a : ℕ
 
 -- it is being visited, and is no longer pending; no mark is above `marks`
 pub record Visiting (o : RunnerConfig) (w h : ℕ) (image t₀ L K B E Q M S : List ℕ) (t : Turns) (k a marks : ℕ) : Type 0 where
-  pub image-fits : Image w h image
   pub table_fits : slot_width * (w * h + 1) ≤ length t₀
   pub chosen : Chosen o w h image t.turns k a
   pub carried : Carried (w * h) (queue_at o w h image t.turns).now (set (queue_at o w h image t.turns).keys k 0)
@@ -167,7 +158,6 @@ pub record Visited (o : RunnerConfig) (w h : ℕ) (image t₀ L K B E Q M S : Li
 
 -- what stage 2 starts from: the buffers hold what stage 1 left, in n slots, and no mark
 pub record Entered (o : RunnerConfig) (w h : ℕ) (image t₀ L K B E Q M S : List ℕ) (n : ℕ) : Type 0 where
-  pub image-fits : Image w h image
   pub rep : Rep (w * h) (stage1 o w h image) t₀ L K B E
   pub slots : n ≡ length (stage1 o w h image).clusters
   pub table_fits : slot_width * (w * h + 1) ≤ length t₀
