@@ -32,12 +32,15 @@ fn run_then_paint(
     ensures picture { picture.new ≡ paint (size.w * size.h) (run (config_of o) size.w size.h image.now) }
 {
     let counts = runner::run(o, size, image, buffers)?;
+    let links = &mut *buffers.links;
+    let table = &mut *buffers.table;
+    let outputs = &mut *buffers.outputs;
     let clusters = Clusters {
         size,
         counts,
-        links: buffers.links,
-        table: buffers.table,
-        outputs: buffers.outputs,
+        links,
+        table,
+        outputs,
     };
     container::to_color_image(clusters, picture)?;
     Ok(counts)

@@ -5,3 +5,4 @@ pub mod Passes
 pub mod Covered
 pub mod Pictures
 pub mod Stretches
+pub mod Accepted

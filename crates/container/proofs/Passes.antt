@@ -2,20 +2,25 @@
 use mathlib.Core.Path.{◌≡◌, refl, sym, subst}
 use mathlib.Core.Bool.{Bool, true, false, ◌&&◌}
 use mathlib.Core.List.{List}
-use Prim.Native.Nat.{ℕ, zero, suc, ◌+◌, ◌-◌, ◌*◌, ◌≤◌, ◌<◌}
+use Prim.Native.Nat.{ℕ, zero, suc, ◌+◌, ◌-◌, ◌≤◌, ◌<◌}
 use native.Mathlib.Decide.{ℕ_discrete}
 use native.Mathlib.Nat.{not-suc-le-zero}
 use native.Mathlib.Numerals.{sub-one}
 use native.Mathlib.Omega.{arith}
 use borrow.Author.Tests.{ltb-true, leb-true, lt-ltb, le-leb}
 use lib.Dec.{T, leb, ltb}
-use lib.ListN.{length, get_or}
+use lib.ListN.{length, get_or, set}
+use Rattle.std.proofs.Common.{get_or-set_same, get_or-set_other}
 use Rattle.rules.specs.Color.{has_average}
 use Rattle.rules.specs.Paint.{reads, slot_number, slot_residue, entry_answer, entries_answer}
 use Rattle.rules.proofs.Facts.{is_true, both_true}
 use Rattle.rules.proofs.Walks.{reads_none}
-use Rattle.rules.specs.Layout.{slot_width, first_pixel_place, pixel_count_place}
-use Rattle.container.specs.Code.Quick.{NumbersPass, ListPasses, PassFrom, EntriesFit}
+use Rattle.rules.specs.Layout.{first_pixel_place, pixel_count_place}
+use Rattle.container.specs.Code.Quick.{NumbersPass, ListPasses, PassFrom, LanePasses, LanesPass}
+use Rattle.container.specs.Code.Leads.{Leads}
+use Rattle.container.specs.declared.quick.Lane.{Lane}
+use Rattle.container.specs.declared.quick.Lanes.{Lanes}
+use Rattle.container.proofs.Leads.{leads-reads}
 
 pub never {ℓ} : {A : Type ℓ} → false ≡ true → A
 never e = absurd (subst T (sym e) tt)
@@ -41,12 +46,6 @@ on-sheet i k size a b c d e =
     let t1 = both_true (ltb i k) (ltb 0 a) t2.0 in
     (ltb-true _ _ t1.0, (ltb-true _ _ t1.1, leb-true _ _ t2.1), (ltb-true _ _ t3.1, leb-true _ _ t4.1), (ltb-true _ _ t5.1, leb-true _ _ t6.1), (ltb-true _ _ t7.1, leb-true _ _ t8.1))
 
-pub entries_fit : {table outputs : List ℕ} {n m : ℕ} → slot_width * n ≤ length table → m ≤ length outputs → ((i : ℕ) → i < m → get_or outputs i 0 < n) → EntriesFit table outputs m
-entries_fit t o b = record { within = o; slots = λ i l. omega (arith, b i l) }
-
-pub fewer-fit : {table outputs : List ℕ} {m left : ℕ} → EntriesFit table outputs m → left ≤ m → EntriesFit table outputs left
-fewer-fit f l = record { within = omega (arith, f.within); slots = λ i b. f.slots i (omega arith) }
-
 module _ (size : ℕ) (links : List ℕ) where
   -- a list without pixels can be read
   pub none_left : (at count : ℕ) → count ≡ 0 → T (reads size links at count)
@@ -68,6 +67,20 @@ module _ (size : ℕ) (links : List ℕ) where
   pub pass-more : (table outputs : List ℕ) (m left : ℕ) → ListPasses size links table (get_or outputs (left - 1) 0)
       → PassFrom size links table outputs m left → PassFrom size links table outputs m (left - 1)
   pass-more table outputs m left h f i l b = elim (ℕ_discrete i (left - 1)) [ yes e ↦ rw e h | no d ↦ f i (omega arith) b ]
+
+-- lane i is filled
+pub filled-turn : (size : ℕ) (links table outputs : List ℕ) (m i : ℕ) (x : Lanes) (y : Lane) → length x.at ≡ 4 → length x.count ≡ 4 → i < 4
+    → LanePasses table outputs (record { at = get_or x.at i 0; count = get_or x.count i 0; left = x.left }) y
+    → LanesPass size links table outputs m x → LanesPass size links table outputs m (record { at = set x.at i y.at; count = set x.count i y.count; left = y.left })
+filled-turn size links table outputs m i x y e f l h p r =
+    let a : i < length x.at = omega arith in
+    let b : i < length x.count = omega arith in
+    let q = h size links (rw (get_or-set_same, get_or-set_same) at (r i l)) in
+    q.1 m (p (λ j k. elim (ℕ_discrete j i) [ yes z ↦ rw z q.0 | no d ↦ rw (get_or-set_other, get_or-set_other) at (r j k) ]))
+
+-- what is left of a list after n links is read with it
+pub walked-reads : (size : ℕ) (links : List ℕ) (at count n to : ℕ) → n ≤ count → Leads size links at n to → T (reads size links to (count - n)) → T (reads size links at count)
+walked-reads size links at count n to l e r = let s : n + (count - n) ≡ count = omega arith in rw s at (leads-reads size links n (count - n) at to e r)
 
 -- a slot that passes both answers 0
 entry_zero : (size n : ℕ) (links table : List ℕ) (k : ℕ) → NumbersPass size n table k → ListPasses size links table k → entry_answer size n links table k ≡ 0

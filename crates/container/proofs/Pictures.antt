@@ -11,6 +11,9 @@ use Rattle.rules.specs.Layout.{first_pixel_place, pixel_count_place}
 use Rattle.container.specs.Code.Uniform.{uniform}
 use Rattle.container.specs.Code.Covered.{Whole}
 use Rattle.container.specs.Code.Quick.{ListPasses}
+use Rattle.refusal.specs.Refusal.{number_of}
+use Rattle.refusal.specs.declared.Refusal.{Refusal}
+use Rattle.container.proofs.Accepted.{refused-number}
 use Rattle.container.proofs.Leads.{leads-reads}
 use Rattle.container.proofs.Entries.{back-turn}
 use Rattle.container.proofs.Covered.{whole-fill}
@@ -27,6 +30,12 @@ whole-passes {size} {links} {table} {outputs} {m} W i l b =
     let e : i ≡ m - 1 = omega arith in
     let z : slot_number table (get_or outputs (m - 1) 0) pixel_count_place ≡ size + 0 = W.count ∙ omega arith in
     rw (e, z) (leads-reads size links size 0 (slot_number table (get_or outputs (m - 1) 0) first_pixel_place) 0 W.leads tt)
+
+-- a refused entry leaves the picture
+pub refused : (size n m : ℕ) (links table outputs given : List ℕ) (r : Refusal) → number_of r ≡ entries_answer size n links table outputs m
+    → ◌≡◌ {A = Painted} (record { answer = number_of r; picture = given }) (painting size n m links table outputs given)
+unfolding painting
+refused size n m links table outputs given r e = rw (← e, refused-number r)
 
 module _ (size n m : ℕ) (links table outputs given : List ℕ) (e : entries_answer size n links table outputs m ≡ 0) where
   abbrev over : ℕ → List ℕ → List ℕ

@@ -105,11 +105,10 @@ module _ (c : Color) where
         let s : both + (half - both) ≡ half = omega arith in
         (rw s at (both-on size both (half - both) u v w x l f g)) ∙ sym (along-on size half half u v l e)
 
--- A cursor goes along count links from `first` and stands at `at`, with `left` links left.
-pub record Going (size : ℕ) (links : List ℕ) (first count at left : ℕ) : Type 0 where
-  pub some : left ≤ count
-  pub gone : Leads size links first (count - left) at
-  pub rest : T (reads size links at left)
+-- A cursor that goes along count links from `first` stands at `at` after i of them.
+pub record Going (size : ℕ) (links : List ℕ) (first count at i : ℕ) : Type 0 where
+  pub gone : Leads size links first i at
+  pub rest : T (reads size links at (count - i))
 
 module _ (size : ℕ) (links : List ℕ) where
   leads-same : (c u v w : ℕ) → Leads size links u c v → Leads size links u c w → v ≡ w
@@ -136,14 +135,12 @@ module _ (size : ℕ) (links : List ℕ) where
   halves-end half both u v x y h e f g = leads-on size links half half u v y e (leads-rest half both v x y h f g)
 
 module _ (size : ℕ) (links : List ℕ) (u n : ℕ) where
-  pub going-starts : T (reads size links u n) → Going size links u n u n
-  going-starts r = let e : n - n ≡ 0 = omega arith in record { some = omega arith; gone = rw e refl; rest = r }
+  -- it stands at a pixel
+  pub going-on : (v i : ℕ) → i < n → Going size links u n v i → (0 < v) × (v ≤ size)
+  going-on v i h g = let s = step size links v (n - i) (omega arith) g.rest in (s.some, s.within)
 
-  pub going-turn : (v l : ℕ) → 0 < l → Going size links u n v l → Going size links u n (get_or links (v - 1) 0) (l - 1)
-  going-turn v l h g =
-      let s = step size links v l h g.rest in
-      let e : n - (l - 1) ≡ (n - l) + 1 = omega (arith, g.some) in
-      record { some = omega (arith, g.some); gone = rw e (leads-more size links (n - l) u v g.gone s.some s.within); rest = s.rest }
-
-  pub going-ends : (v l : ℕ) → l ≤ 0 → Going size links u n v l → Leads size links u n v
-  going-ends v l h g = let e : n - l ≡ n = omega arith in rw e at g.gone
+  pub going-turn : (v i : ℕ) → i < n → Going size links u n v i → Going size links u n (get_or links (v - 1) 0) (i + 1)
+  going-turn v i h g =
+      let s = step size links v (n - i) (omega arith) g.rest in
+      let e : (n - i) - 1 ≡ n - (i + 1) = omega arith in
+      record { gone = leads-more size links i u v g.gone s.some s.within; rest = rw e at s.rest }

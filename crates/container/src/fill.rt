@@ -11,9 +11,7 @@ pub(crate) fn fill(picture: &mut [u8], size: usize, c: Color)
     requires { length picture.old ≡ 4 * size }
     ensures { picture.new ≡ uniform (color_of c) size }
 {
-    let mut p = 0;
-    while p < size {
+    for p in 0..size {
         halves::paint_pixel(picture, p, c);
-        p += 1;
     }
 }

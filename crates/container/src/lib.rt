@@ -1,10 +1,11 @@
-// The picture of the clusters, after container.rs. The buffers may be any, also such that no run made: the call answers
-// the number of the first check that failed, or 0, and a refused call changes nothing.
+// The picture of the clusters, after container.rs. The buffers may be any, also such that no run made: a refused call
+// answers the first check that failed, and changes nothing.
 #![tactic(auto)]
 
-mod checks;
+mod checked;
 mod fill;
 mod halves;
+mod numbered;
 mod paint;
 mod picture;
 mod quick;
@@ -12,34 +13,17 @@ mod whole;
 
 ghost use Rattle.std.specs.Prelude.{◌≡◌};
 ghost use Rattle.rules.specs.Calls.{paint_call};
+ghost use Rattle.refusal.specs.Refusal.{answer_of};
+
+use checked::Sheet;
+use image::Clusters;
+use refusal::Refusal;
 
 // Paints the m outputs, from last to first, each cluster with its residue average; the rest of the picture is zero.
 // Nothing is painted unless every entry passes.
-pub fn to_color_image(
-    w: u32,
-    h: u32,
-    links: &[u32],
-    table: &[u32],
-    outputs: &[u32],
-    picture: &mut [u8],
-    n: u32,
-    m: u32,
-) -> u32
-    ensures { record { answer = result; picture = picture.new }
-        ≡ paint_call w h links.now table.now outputs.now picture.old n m }
+pub fn to_color_image(clusters: Clusters, picture: &mut [u8]) -> Result<(), Refusal>
+    ensures { let s = clusters.entry in record { answer = answer_of result; picture = picture.new }
+        ≡ paint_call s.size.w s.size.h s.links.now s.table.now s.outputs.now picture.old s.counts.n s.counts.m }
 {
-    let answer = checks::paint_answer(
-        w,
-        h,
-        links.len(),
-        table.len(),
-        outputs.len(),
-        picture.len(),
-        n,
-        m,
-    );
-    if answer != 0 {
-        return answer;
-    }
-    picture::painting(w * h, links, table, outputs, picture, n, m)
+    Sheet::checked(clusters, picture.len())?.paint(picture)
 }

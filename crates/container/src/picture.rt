@@ -1,143 +1,106 @@
 // The picture: the quick checks, the plain one where they do not decide, and then the entries.
-ghost use Rattle.std.specs.Prelude.{◌≡◌, true, ℕ, ◌+◌, ◌-◌, ◌*◌, ◌≤◌, ◌<◌, T, length, get_or};
+ghost use Rattle.std.specs.Prelude.{◌≡◌, true, ℕ, ◌-◌, ◌*◌, ◌≤◌, ◌<◌, T, length, get_or};
 ghost use Rattle.rules.specs.Color.{has_average, average};
 ghost use Rattle.rules.specs.Paint as rules;
-ghost use Rattle.rules.specs.Layout.{slot_width, InTable};
-ghost use Rattle.rules.specs.Refusals.{limit};
-ghost use Rattle.container.specs.Code.Lengths.{CanPaint};
-ghost use Rattle.container.specs.Code.Quick.{NumbersPass, ListPasses};
+ghost use Rattle.refusal.specs.Refusal.{answer_of};
+ghost use Rattle.container.specs.Code.Quick.{ListPasses};
 ghost use Rattle.container.specs.Code.Uniform.{uniform};
 ghost use Rattle.container.specs.Code.Covered.{Whole};
 
-use super::{fill, paint, quick, whole};
-use color::ColorOrNone;
+use crate::checked::Sheet;
+use crate::fill;
+use crate::numbered::Numbered;
 use image::layout;
+use refusal::Refusal;
 
-// The answer of m entries whose numbers pass, and whose lists do from entry `rest` on.
-fn quick_answer(
-    links: &[u32],
-    table: &[u32],
-    outputs: &[u32],
-    size: u32,
-    n: u32,
-    m: u32,
-    rest: u32,
-) -> u32
-    requires { (size ≤ length links.now) × (slot_width * n ≤ length table.now) × (m ≤ length outputs.now)
-        × (rest ≤ m) × ((i : ℕ) → i < m → NumbersPass size n table.now (get_or outputs.now i 0))
-        × ((i : ℕ) → rest ≤ i → i < m → ListPasses size links.now table.now (get_or outputs.now i 0)) }
-    ensures { result
-        ≡ rules.entries_answer size n links.now table.now outputs.now m }
-{
-    if quick::lists_pass(links, table, outputs, size, n, rest) {
-        return 0;
+impl Numbered<'_> {
+    // Checks the entries, whose lists pass from entry `rest` on.
+    fn check_lists(self, rest: u32) -> Result<(), Refusal>
+        requires rest { rest ≤ self.sheet.m }
+        requires lists { let s = self.sheet in (i : ℕ) → rest ≤ i → i < s.m
+            → ListPasses s.size s.links.now s.table.now (get_or s.outputs.now i 0) }
+        ensures { let s = self.entry.sheet in
+            answer_of result ≡ rules.entries_answer s.size s.n s.links.now s.table.now s.outputs.now s.m }
+    {
+        if self.lists_pass(rest) {
+            return Ok(());
+        }
+        self.sheet.check_entries()
     }
-    paint::entries_answer(links, table, outputs, size, n, m)
+
+    // Whether the last entry's list is found to be all pixels.
+    fn is_covered(self) -> bool
+        ensures { let s = self.entry.sheet in
+            result ≡ true → Whole s.size s.links.now s.table.now s.outputs.now s.m }
+    {
+        let sheet = self.sheet;
+        if sheet.m == 0 {
+            return false;
+        }
+        let k = sheet.outputs[(sheet.m - 1) as usize];
+        if sheet.slot_number(k, layout::PIXEL_COUNT) != sheet.size {
+            return false;
+        }
+        self.is_all()
+    }
 }
 
-// Whether the last entry's list is found to be all pixels.
-fn covers(links: &[u32], table: &[u32], outputs: &[u32], size: u32, n: u32, m: u32) -> bool
-    requires { (0 < size) × (size ≤ limit) × (size ≤ length links.now) × (slot_width * n ≤ length table.now)
-        × (m ≤ length outputs.now) × ((i : ℕ) → i < m → NumbersPass size n table.now (get_or outputs.now i 0)) }
-    ensures { result ≡ true → Whole size links.now table.now outputs.now m }
-{
-    if m == 0 {
-        return false;
+impl Sheet<'_> {
+    // Paints every pixel with the residue average of slot k.
+    fn paint_all(self, picture: &mut [u8], k: u32)
+        requires slot { k < self.n }
+        requires average { T (has_average (rules.slot_residue self.table.now k)) }
+        requires long { length picture.old ≡ 4 * self.size }
+        ensures { let s = self.entry in
+            picture.new ≡ uniform (average (rules.slot_residue s.table.now k)) s.size }
+    {
+        fill::fill(picture, self.size as usize, self.average(k));
     }
-    let k = outputs[(m - 1) as usize];
-    if table[layout::SLOT_WIDTH * (k as usize) + layout::PIXEL_COUNT] != size {
-        return false;
-    }
-    whole::is_all(links, table, outputs, size, n, m)
-}
 
-// Paints every pixel with the residue average of slot k.
-fn paint_all(table: &[u32], picture: &mut [u8], size: u32, k: u32)
-    requires { (InTable k table.now) × (length picture.old ≡ 4 * size)
-        × T (has_average (rules.slot_residue table.now k)) }
-    ensures { picture.new ≡ uniform (average (rules.slot_residue table.now k)) size }
-{
-    let ColorOrNone::Some(c) = paint::residue(table, k).average() else {
-        return;
-    };
-    fill::fill(picture, size as usize, c);
-}
+    // Paints the entries over zeros.
+    fn paint_over_zeros(self, picture: &mut [u8])
+        requires long { length picture.old ≡ 4 * self.size }
+        requires passed { let s = self in
+            rules.entries_answer s.size s.n s.links.now s.table.now s.outputs.now s.m ≡ 0 }
+        ensures { let s = self.entry in record { answer = 0; picture = picture.new }
+            ≡ rules.painting s.size s.n s.m s.links.now s.table.now s.outputs.now picture.old }
+    {
+        picture.fill(0);
+        self.paint_entries(picture, self.m);
+    }
 
-// Paints the entries over zeros, where the answer is 0.
-fn over_zeros(
-    links: &[u32],
-    table: &[u32],
-    outputs: &[u32],
-    picture: &mut [u8],
-    size: u32,
-    n: u32,
-    m: u32,
-    answer: u32,
-) -> u32
-    requires { CanPaint size n m (length links.now) (length table.now) (length outputs.now)
-        (length picture.old) × (answer ≡ rules.entries_answer size n links.now table.now outputs.now m) }
-    ensures { record { answer = result; picture = picture.new }
-        ≡ rules.painting size n m
-        links.now table.now outputs.now picture.old }
-{
-    if answer != 0 {
-        return answer;
+    // Paints the other entries over the last one, which is all pixels.
+    fn paint_over_last(self, picture: &mut [u8])
+        requires long { length picture.old ≡ 4 * self.size }
+        requires passed { let s = self in
+            rules.entries_answer s.size s.n s.links.now s.table.now s.outputs.now s.m ≡ 0 }
+        requires whole { let s = self in Whole s.size s.links.now s.table.now s.outputs.now s.m }
+        ensures { let s = self.entry in record { answer = 0; picture = picture.new }
+            ≡ rules.painting s.size s.n s.m s.links.now s.table.now s.outputs.now picture.old }
+    {
+        let rest = self.m - 1;
+        self.paint_all(picture, self.outputs[rest as usize]);
+        self.paint_entries(picture, rest);
     }
-    paint::clear(picture);
-    paint::paint_entries(links, table, outputs, picture, size, n, m);
-    0
-}
 
-// Paints the other entries over the last one, which is all pixels, where the answer is 0.
-fn over_last(
-    links: &[u32],
-    table: &[u32],
-    outputs: &[u32],
-    picture: &mut [u8],
-    size: u32,
-    n: u32,
-    m: u32,
-    answer: u32,
-) -> u32
-    requires { CanPaint size n m (length links.now) (length table.now) (length outputs.now)
-        (length picture.old) × (answer ≡ rules.entries_answer size n links.now table.now outputs.now m)
-        × Whole size links.now table.now outputs.now m }
-    ensures { record { answer = result; picture = picture.new }
-        ≡ rules.painting size n m
-        links.now table.now outputs.now picture.old }
-{
-    if answer != 0 {
-        return answer;
+    // Paints when every entry passes, and else answers the first check that failed.
+    pub(crate) fn paint(self, picture: &mut [u8]) -> Result<(), Refusal>
+        requires { length picture.old ≡ 4 * self.size }
+        ensures { let s = self.entry in record { answer = answer_of result; picture = picture.new }
+            ≡ rules.painting s.size s.n s.m s.links.now s.table.now s.outputs.now picture.old }
+    {
+        let Some(numbered) = Numbered::checked(self) else {
+            self.check_entries()?;
+            self.paint_over_zeros(picture);
+            return Ok(());
+        };
+        if !numbered.is_covered() {
+            numbered.check_lists(self.m)?;
+            self.paint_over_zeros(picture);
+            return Ok(());
+        }
+        numbered.check_lists(self.m - 1)?;
+        self.paint_over_last(picture);
+        Ok(())
     }
-    paint_all(table, picture, size, outputs[(m - 1) as usize]);
-    paint::paint_entries(links, table, outputs, picture, size, n, m - 1);
-    0
-}
-
-// Paints when every entry passes, and answers the number of the first check that failed.
-pub(crate) fn painting(
-    size: u32,
-    links: &[u32],
-    table: &[u32],
-    outputs: &[u32],
-    picture: &mut [u8],
-    n: u32,
-    m: u32,
-) -> u32
-    requires { CanPaint size n m (length links.now) (length table.now) (length outputs.now)
-        (length picture.old) }
-    ensures { record { answer = result; picture = picture.new }
-        ≡ rules.painting size n m
-        links.now table.now outputs.now picture.old }
-{
-    if !quick::numbers_pass(table, outputs, size, n, m) {
-        let answer = paint::entries_answer(links, table, outputs, size, n, m);
-        return over_zeros(links, table, outputs, picture, size, n, m, answer);
-    }
-    if !covers(links, table, outputs, size, n, m) {
-        let answer = quick_answer(links, table, outputs, size, n, m, m);
-        return over_zeros(links, table, outputs, picture, size, n, m, answer);
-    }
-    let answer = quick_answer(links, table, outputs, size, n, m, m - 1);
-    over_last(links, table, outputs, picture, size, n, m, answer)
 }

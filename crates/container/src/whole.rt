@@ -1,213 +1,139 @@
 // Whether the last entry's list is all pixels of the sheet: three stretches of it are walked at once, so that no link
 // waits for another's.
-ghost use Rattle.std.specs.Prelude.{◌≡◌, true, false, ℕ, ◌+◌, ◌-◌, ◌*◌, ◌≤◌, ◌<◌, length, get_or};
+ghost use Rattle.std.specs.Prelude.{◌≡◌, true, false, ℕ, ◌-◌, ◌*◌, ◌≤◌, ◌<◌, length, get_or};
 ghost use Rattle.rules.specs.Paint.{slot_number};
-ghost use Rattle.rules.specs.Layout.{slot_width};
-ghost use Rattle.rules.specs.Refusals.{limit};
 ghost use Rattle.container.specs.Code.Leads.{Leads};
 
-use image::layout;
+use crate::checked::Sheet;
+use crate::numbered::Numbered;
 
-// Where a walk stands, and how many links it has gone.
+// Where walks stand, and how many links each has gone.
 #[derive(Clone, Copy)]
-struct One {
-    a: u32,
-    moved: u32,
-}
-
-#[derive(Clone, Copy)]
-struct Two {
-    a: u32,
-    b: u32,
-    moved: u32,
-}
-
-#[derive(Clone, Copy)]
-struct Three {
-    a: u32,
-    b: u32,
-    c: u32,
-    moved: u32,
-}
-
-// Whether a walk stops at v: at q and r, and where there is no pixel.
-fn walk_ends(v: u32, size: u32, q: u32, r: u32) -> bool
-    ensures { result ≡ false → (0 < v) × (v ≤ size) }
-{
-    (v == 0) | (size < v) | (v == q) | (v == r)
-}
-
-// Walks from a until it stops.
-fn walk_one(links: &[u32], size: u32, q: u32, r: u32, a: u32) -> One
-    requires { size ≤ length links.now }
-    ensures { (result.moved ≤ size) × Leads size links.now a result.moved result.a }
-{
-    let mut x = a;
-    let mut moved = 0;
-    while moved < size {
-        if walk_ends(x, size, q, r) {
-            return One { a: x, moved };
-        }
-        x = links[(x - 1) as usize];
-        moved += 1;
-    }
-    One { a: x, moved }
-}
-
-// Walks from a and b until one of them stops.
-fn walk_two(links: &[u32], size: u32, q: u32, r: u32, a: u32, b: u32) -> Two
-    requires { size ≤ length links.now }
-    ensures { (result.moved ≤ size) × Leads size links.now a result.moved result.a
-        × Leads size links.now b result.moved result.b }
-{
-    let mut x = a;
-    let mut y = b;
-    let mut moved = 0;
-    while moved < size {
-        if walk_ends(x, size, q, r) | walk_ends(y, size, q, r) {
-            return Two { a: x, b: y, moved };
-        }
-        x = links[(x - 1) as usize];
-        y = links[(y - 1) as usize];
-        moved += 1;
-    }
-    Two { a: x, b: y, moved }
-}
-
-// Walks from a, b and c until one of them stops.
-fn walk_three(links: &[u32], size: u32, q: u32, r: u32, a: u32, b: u32, c: u32) -> Three
-    requires { size ≤ length links.now }
-    ensures { (result.moved ≤ size) × Leads size links.now a result.moved result.a
-        × Leads size links.now b result.moved result.b × Leads size links.now c result.moved result.c }
-{
-    let mut x = a;
-    let mut y = b;
-    let mut z = c;
-    let mut moved = 0;
-    while moved < size {
-        if walk_ends(x, size, q, r) | walk_ends(y, size, q, r) | walk_ends(z, size, q, r) {
-            return Three {
-                a: x,
-                b: y,
-                c: z,
-                moved,
-            };
-        }
-        x = links[(x - 1) as usize];
-        y = links[(y - 1) as usize];
-        z = links[(z - 1) as usize];
-        moved += 1;
-    }
-    Three {
-        a: x,
-        b: y,
-        c: z,
-        moved,
-    }
+pub(crate) struct Walk<const N: usize> {
+    pub(crate) at: [u32; N],
+    pub(crate) moved: u32,
 }
 
 // Where the walks from first, q and r stop, and how many links each has gone.
 #[derive(Clone, Copy)]
 struct Ends {
-    a: u32,
-    b: u32,
-    c: u32,
-    na: u32,
-    nb: u32,
-    nc: u32,
+    at: [u32; 3],
+    moved: [u32; 3],
 }
 
-// Walks from first, q and r: all three, then any two of which neither has stopped, then each alone.
-fn walks(links: &[u32], size: u32, first: u32, q: u32, r: u32) -> Ends
-    requires { (size ≤ length links.now) × (size ≤ limit) × (0 < q) × (q ≤ size) × (0 < r) × (r ≤ size) }
-    ensures { (result.na ≤ 5 * size) × (result.nb ≤ 5 * size) × (result.nc ≤ 5 * size)
-        × Leads size links.now first result.na result.a × Leads size links.now q result.nb result.b
-        × Leads size links.now r result.nc result.c }
-{
-    let b = links[(q - 1) as usize];
-    let c = links[(r - 1) as usize];
-    let t = walk_three(links, size, q, r, first, b, c);
-    let u = walk_two(links, size, q, r, t.a, t.b);
-    let v = walk_two(links, size, q, r, u.b, t.c);
-    let w = walk_two(links, size, q, r, u.a, v.b);
-    let x = walk_one(links, size, q, r, w.a);
-    let y = walk_one(links, size, q, r, v.a);
-    let z = walk_one(links, size, q, r, w.b);
-    Ends {
-        a: x.a,
-        b: y.a,
-        c: z.a,
-        na: t.moved + u.moved + w.moved + x.moved,
-        nb: 1 + t.moved + u.moved + v.moved + y.moved,
-        nc: 1 + t.moved + v.moved + w.moved + z.moved,
+impl Sheet<'_> {
+    // Whether a walk stops at v: at q and r, and where there is no pixel.
+    fn walk_ends(self, v: u32, q: u32, r: u32) -> bool
+        ensures { result ≡ false → (0 < v) × (v ≤ self.entry.size) }
+    {
+        (v == 0) | (self.size < v) | (v == q) | (v == r)
+    }
+
+    // Each of several places goes one link on.
+    pub(crate) fn follow<const N: usize>(self, at: &mut [u32; N])
+        requires { (i : ℕ) → i < N → (0 < get_or at.old i 0) × (get_or at.old i 0 ≤ self.size) }
+        ensures length { length at.new ≡ N }
+        ensures on { (i : ℕ) → i < N → get_or at.new i 0 ≡ get_or self.entry.links.now (get_or at.old i 0 - 1) 0 }
+    {
+        for v in at.iter_mut() {
+            *v = self.links[(*v - 1) as usize];
+        }
+    }
+
+    // Walks from several pixels, most links at most, until one of the walks stops.
+    pub(crate) fn walk<const N: usize>(self, q: u32, r: u32, from: [u32; N], most: u32) -> Walk<N>
+        ensures moved { result.moved ≤ most }
+        ensures leads { let s = self.entry in (i : ℕ) → i < N
+            → Leads s.size s.links.now (get_or from.entry i 0) result.moved (get_or result.at i 0) }
+    {
+        let mut at = from;
+        for moved in 0..most {
+            if at.iter().any(|v| self.walk_ends(*v, q, r)) {
+                return Walk { at, moved };
+            }
+            self.follow(&mut at);
+        }
+        Walk { at, moved: most }
+    }
+
+    // Walks from first, q and r: all three, then any two of which neither has stopped, then each alone.
+    fn walks(self, first: u32, q: u32, r: u32) -> Ends
+        requires q { (0 < q) × (q ≤ self.size) }
+        requires r { (0 < r) × (r ≤ self.size) }
+        ensures moved { (i : ℕ) → i < 3 → get_or result.moved i 0 ≤ 5 * self.entry.size }
+        ensures first { let s = self.entry in
+            Leads s.size s.links.now first (get_or result.moved 0 0) (get_or result.at 0 0) }
+        ensures q { let s = self.entry in Leads s.size s.links.now q (get_or result.moved 1 0) (get_or result.at 1 0) }
+        ensures r { let s = self.entry in Leads s.size s.links.now r (get_or result.moved 2 0) (get_or result.at 2 0) }
+    {
+        let mut on = [q, r];
+        self.follow(&mut on);
+        let [b, c] = on;
+        let size = self.size;
+        let t = self.walk(q, r, [first, b, c], size);
+        let u = self.walk(q, r, [t.at[0], t.at[1]], size);
+        let v = self.walk(q, r, [u.at[1], t.at[2]], size);
+        let w = self.walk(q, r, [u.at[0], v.at[1]], size);
+        let x = self.walk(q, r, [w.at[0]], size);
+        let y = self.walk(q, r, [v.at[0]], size);
+        let z = self.walk(q, r, [w.at[1]], size);
+        Ends {
+            at: [x.at[0], y.at[0], z.at[0]],
+            moved: [
+                t.moved + u.moved + w.moved + x.moved,
+                1 + t.moved + u.moved + v.moved + y.moved,
+                1 + t.moved + v.moved + w.moved + z.moved,
+            ],
+        }
+    }
+
+    // True only if size links from first lead to 0: from first to q, to r and to 0, or to r, to q and to 0.
+    fn is_whole(self, first: u32, q: u32, r: u32) -> bool
+        requires q { (0 < q) × (q ≤ self.size) }
+        requires r { (0 < r) × (r ≤ self.size) }
+        ensures { let s = self.entry in result ≡ true → Leads s.size s.links.now first s.size 0 }
+    {
+        let ends = self.walks(first, q, r);
+        let [a, b, c] = ends.at;
+        let [na, nb, nc] = ends.moved;
+        if na + nb + nc != self.size {
+            return false;
+        }
+        if (a == q) & (b == r) & (c == 0) {
+            return true;
+        }
+        (a == r) & (c == q) & (b == 0)
     }
 }
 
-// True only if size links from first lead to 0: from first to q, to r and to 0, or to r, to q and to 0.
-pub(crate) fn is_whole(links: &[u32], size: u32, first: u32, q: u32, r: u32) -> bool
-    requires { (size ≤ length links.now) × (size ≤ limit) × (0 < q) × (q ≤ size) × (0 < r) × (r ≤ size) }
-    ensures { result ≡ true → Leads size links.now first size 0 }
-{
-    let e = walks(links, size, first, q, r);
-    if e.na + e.nb + e.nc != size {
-        return false;
+impl Numbered<'_> {
+    // The first pixel of entry m - back, plus one, where there are three entries and it is on the sheet, else other.
+    fn stretch_start(self, back: u32, other: u32) -> u32
+        requires back { (0 < back) × (back ≤ 3) }
+        requires other { (0 < other) × (other ≤ self.sheet.size) }
+        ensures { (0 < result) × (result ≤ self.entry.sheet.size) }
+    {
+        let sheet = self.sheet;
+        if sheet.m < 3 {
+            return other;
+        }
+        let v = sheet.list(sheet.outputs[(sheet.m - back) as usize]).first;
+        if (v == 0) | (sheet.size < v) {
+            return other;
+        }
+        v
     }
-    if (e.a == q) & (e.b == r) & (e.c == 0) {
-        return true;
-    }
-    (e.a == r) & (e.c == q) & (e.b == 0)
-}
 
-// The first pixel of entry i, plus one.
-fn first_of_entry(table: &[u32], outputs: &[u32], n: u32, i: u32) -> u32
-    requires { (slot_width * n ≤ length table.now) × (i < length outputs.now) × (get_or outputs.now i 0 < n) }
-    ensures { result ≡ slot_number table.now (get_or outputs.now i 0) 0 }
-{
-    let k = outputs[i as usize];
-    table[layout::SLOT_WIDTH * (k as usize) + layout::FIRST_PIXEL]
-}
-
-// The first pixel of entry m - back, plus one, where there are three entries and it is on the sheet, else other.
-fn stretch_start(
-    table: &[u32],
-    outputs: &[u32],
-    size: u32,
-    n: u32,
-    m: u32,
-    back: u32,
-    other: u32,
-) -> u32
-    requires { (slot_width * n ≤ length table.now) × (m ≤ length outputs.now)
-        × ((i : ℕ) → i < m → get_or outputs.now i 0 < n) × (0 < back) × (back ≤ 3) × (0 < other) × (other ≤ size) }
-    ensures { (0 < result) × (result ≤ size) }
-{
-    if m < 3 {
-        return other;
+    // True only if size links from the first pixel of the last entry lead to 0.
+    pub(crate) fn is_all(self) -> bool
+        requires { 0 < self.sheet.m }
+        ensures { let s = self.entry.sheet in result ≡ true
+            → Leads s.size s.links.now (slot_number s.table.now (get_or s.outputs.now (s.m - 1) 0) 0) s.size 0 }
+    {
+        let sheet = self.sheet;
+        let first = sheet.list(sheet.outputs[(sheet.m - 1) as usize]).first;
+        let q = self.stretch_start(2, sheet.size / 8 + 1);
+        let r = self.stretch_start(3, sheet.size / 2 + 1);
+        sheet.is_whole(first, q, r)
     }
-    let v = first_of_entry(table, outputs, n, m - back);
-    if (v == 0) | (size < v) {
-        return other;
-    }
-    v
-}
-
-// True only if size links from the first pixel of the last entry lead to 0.
-pub(crate) fn is_all(
-    links: &[u32],
-    table: &[u32],
-    outputs: &[u32],
-    size: u32,
-    n: u32,
-    m: u32,
-) -> bool
-    requires { (0 < size) × (size ≤ limit) × (size ≤ length links.now) × (slot_width * n ≤ length table.now)
-        × (m ≤ length outputs.now) × (0 < m) × ((i : ℕ) → i < m → get_or outputs.now i 0 < n) }
-    ensures { result ≡ true
-        → Leads size links.now (slot_number table.now (get_or outputs.now (m - 1) 0) 0)
-        size 0 }
-{
-    let first = first_of_entry(table, outputs, n, m - 1);
-    let q = stretch_start(table, outputs, size, n, m, 2, size / 8 + 1);
-    let r = stretch_start(table, outputs, size, n, m, 3, size / 2 + 1);
-    is_whole(links, size, first, q, r)
 }

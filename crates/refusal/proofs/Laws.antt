@@ -1,5 +1,6 @@
 -- Laws on the numbers of the checks.
-use Rattle.std.specs.Prelude.{◌≡◌, Bool, false, nat_eq, refl}
+use Rattle.std.specs.Prelude.{◌≡◌, false, nat_eq, refl}
+use Rattle.std.proofs.Common.{sym, ◌∙◌, eq-eqb, true≢false}
 use Rattle.refusal.specs.declared.Refusal.{Refusal}
 use Rattle.refusal.specs.declared.Refusal.TheVariants.{Shift, NoPixels, TooManyPixels, ImageLength, BufferLength}
 use Rattle.refusal.specs.declared.Refusal.TheVariants.{PictureLength, SumTooLarge, NoSlot, NoAverage, BadList, NoRow}
@@ -21,3 +22,6 @@ refusal-number BadList = refl
 refusal-number NoRow = refl
 refusal-number LargeNumber = refl
 refusal-number DestinationLength = refl
+
+pub refused-ne0 : (r : Refusal) → number_of r ≡ 0 → ⊥
+refused-ne0 r e = true≢false (sym (eq-eqb _ _ e) ∙ refusal-number r)

@@ -8,44 +8,25 @@ mod edges;
 mod reading;
 mod refusals;
 mod sheets;
+mod tally;
 mod trials;
 
-use std::io;
+use std::io::{self, Read};
 
-// Writes two counts, each with the words after it.
-fn print_counts(
-    rt: &impl Print,
-    first: u64,
-    words: &str,
-    second: u64,
-    end: &str,
-) -> io::Result<()> {
-    print!(rt; "{first}{words}{second}{end}")
-}
-
-// Writes what came of the replay.
-fn print_replayed(rt: &impl Print, r: cases::Replayed) -> io::Result<()> {
-    print_counts(rt, r.cases, " recorded cases, ", r.skipped, " skipped, ")?;
-    print_counts(rt, r.differ, " differ, ", r.left, " bytes left over\n")
-}
-
-// The window holds more than the longest case. A read or a write that fails ends the program with its error.
+// A read, a write or an allocation that fails ends the program with its error.
 fn main(rt: HostRuntime) -> io::Result<()> {
-    let mut window = [0u8; 81920];
-    let mut input = rt.reader();
-    print_replayed(&rt, cases::replay(&mut input, &mut window)?)?;
-    print_counts(
-        &rt,
-        refusals::CALLS,
-        " runs at the edges of the refusals, ",
-        refusals::all(&window),
-        " wrong\n",
+    let mut input = Vec::new(rt.alloc());
+    rt.reader().read_to_end(&mut input)?;
+    let replayed = cases::replay(rt.alloc(), &input)?;
+    println!(rt; "{replayed}")?;
+    let runs = refusals::all(rt.alloc())?;
+    println!(rt;
+        "{} runs at the edges of the refusals, {} wrong",
+        runs.calls, runs.wrong
     )?;
-    print_counts(
-        &rt,
-        edges::CALLS,
-        " pictures, rows and sheets at the edges of the refusals, ",
-        edges::all(),
-        " wrong\n",
+    let others = edges::all(rt.alloc())?;
+    println!(rt;
+        "{} pictures, rows and sheets at the edges of the refusals, {} wrong",
+        others.calls, others.wrong
     )
 }

@@ -85,8 +85,8 @@ pub beside-in : (n x : ℕ) → 1 < x → x < 2 * n → beside_of x < 2 * n
 beside-in n x l b = beside x (λ y. y < 2 * n) (λ e. omega arith) (λ e. omega arith)
 
 -- an entry and the one beside it are the children of the node above
-pub first_beside : (queue : List ℕ) (n room x : ℕ) → first_entry (entry_at queue n room x) (entry_at queue n room (beside_of x)) ≡ first_below queue n room (x / 2)
-first_beside queue n room x = beside x (λ y. first_entry (entry_at queue n room x) (entry_at queue n room y) ≡ first_below queue n room (x / 2))
+pub first-beside : (queue : List ℕ) (n room x : ℕ) → first_entry (entry_at queue n room x) (entry_at queue n room (beside_of x)) ≡ first_below queue n room (x / 2)
+first-beside queue n room x = beside x (λ y. first_entry (entry_at queue n room x) (entry_at queue n room y) ≡ first_below queue n room (x / 2))
     (λ e. ap (λ y. first_entry (entry_at queue n room y) (entry_at queue n room (y + 1))) e)
     (λ e. let z : x - 1 ≡ 2 * (x / 2) = omega arith in first_either (entry_at queue n room x) (entry_at queue n room (x - 1)) ∙ ap₂ (λ i j. first_entry (entry_at queue n room i) (entry_at queue n room j)) z e)
 
@@ -204,16 +204,19 @@ module _ (queue : List ℕ) (n room : ℕ) (S : Sized n room (length queue)) (j 
 -- ---- the store of one node
 
 module _ (queue : List ℕ) (n room j : ℕ) (e : Entry) (is : e ≡ first_below queue n room j) where
-  pub held_node : with_node queue room j e ≡ refreshed queue n room j
+  pub held-node : with_node queue room j e ≡ refreshed queue n room j
   unfolding refreshed
-  held_node = ap (with_node queue room j) is
+  held-node = ap (with_node queue room j) is
 
   -- a node that holds it already needs no store
-  pub kept_node : j < n → (old : Entry) → old ≡ entry_at queue n room j → (eqb old.key e.key && eqb old.slot e.slot) ≡ true → queue ≡ refreshed queue n room j
-  kept_node l old at t =
+  pub kept-node : j < n → (old : Entry) → old ≡ entry_at queue n room j → (eqb old.key e.key && eqb old.slot e.slot) ≡ true → queue ≡ refreshed queue n room j
+  kept-node l old at t =
       let b = both_true (eqb old.key e.key) (eqb old.slot e.slot) t in
       let z : node queue room j ≡ e = sym (at-node queue n room j l) ∙ sym at ∙ ap₂ (λ k s. record { key = k; slot = s }) (eqb-true old.key e.key b.0) (eqb-true old.slot e.slot b.1) in
-      sym (set-get_or queue (room + 2 * j + 1) 0) ∙ ap (λ q. set q (room + 2 * j + 1) (get_or queue (room + 2 * j + 1) 0)) (sym (set-get_or queue (room + 2 * j) 0)) ∙ ap (with_node queue room j) z ∙ held_node
+      sym (set-get_or queue (room + 2 * j + 1) 0) ∙ ap (λ q. set q (room + 2 * j + 1) (get_or queue (room + 2 * j + 1) 0)) (sym (set-get_or queue (room + 2 * j) 0)) ∙ ap (with_node queue room j) z ∙ held-node
+
+-- a node that takes the first of its children, or holds it already
+pub ruleset takes_first = (first-beside, held-node, kept-node)
 
 -- ---- a changed key
 
@@ -231,9 +234,9 @@ pub record Climbing (queue₀ queue : List ℕ) (n room x : ℕ) (e : Entry) : T
   pub keys : (y : ℕ) → y < room → get_or queue y 0 ≡ get_or queue₀ y 0
 
 -- a new key breaks at most the node above it
-pub climb_start : (queue : List ℕ) (n room k v : ℕ) → Sized n room (length queue) → k < n → Tree queue n room → Climbing (set queue k v) (set queue k v) n room (n + k) (record { key = v; slot = k })
+pub climb-start : (queue : List ℕ) (n room k v : ℕ) → Sized n room (length queue) → k < n → Tree queue n room → Climbing (set queue k v) (set queue k v) n room (n + k) (record { key = v; slot = k })
 unfolding Tree
-climb_start queue n room k v S b H = record {
+climb-start queue n room k v S b H = record {
   sized = subst (Sized n room) (sym (length-set queue k v)) S;
   long = refl;
   inside = omega arith;
@@ -252,8 +255,8 @@ module _ (queue₀ queue next : List ℕ) (n room x : ℕ) (e : Entry) (C : Clim
   above_in = omega (arith, C.inside)
 
   -- a node made from its children leaves at most the node above it
-  pub climb_up : (t : Entry) → next ≡ refreshed queue n room (x / 2) → t ≡ first_below queue n room (x / 2) → Climbing queue₀ next n room (x / 2) t
-  climb_up t m f = subst (λ q. Climbing queue₀ q n room (x / 2) t) (sym m) (record {
+  pub climb-up : (t : Entry) → next ≡ refreshed queue n room (x / 2) → t ≡ first_below queue n room (x / 2) → Climbing queue₀ next n room (x / 2) t
+  climb-up t m f = subst (λ q. Climbing queue₀ q n room (x / 2) t) (sym m) (record {
     sized = subst (Sized n room) (sym (made-length queue n room C.sized (x / 2) above_in)) C.sized;
     long = made-length queue n room C.sized (x / 2) above_in ∙ C.long;
     inside = omega (arith, C.inside);
@@ -263,13 +266,13 @@ module _ (queue₀ queue next : List ℕ) (n room x : ℕ) (e : Entry) (C : Clim
   })
 
   -- where the node is as it was, nothing is left to do
-  pub climb_stop : next ≡ refreshed queue n room (x / 2) → next ≡ queue → Tree next n room
+  pub climb-stop : next ≡ refreshed queue n room (x / 2) → next ≡ queue → Tree next n room
   unfolding Tree
-  climb_stop m z i p q = by_cases (ℕ_discrete i (x / 2 / 2)) (λ y. subst (λ g. entry_at g n room i ≡ first_below g n room i) (sym z) (C.but i p q (λ u. omega arith))) ((climb_up (first_below queue n room (x / 2)) m refl).but i p q)
+  climb-stop m z i p q = by_cases (ℕ_discrete i (x / 2 / 2)) (λ y. subst (λ g. entry_at g n room i ≡ first_below g n room i) (sym z) (C.but i p q (λ u. omega arith))) ((climb-up (first_below queue n room (x / 2)) m refl).but i p q)
 
-pub climb_end : (queue₀ queue : List ℕ) (n room x : ℕ) (e : Entry) → x ≤ 1 → Climbing queue₀ queue n room x e → Tree queue n room
+pub climb-end : (queue₀ queue : List ℕ) (n room x : ℕ) (e : Entry) → x ≤ 1 → Climbing queue₀ queue n room x e → Tree queue n room
 unfolding Tree
-climb_end queue₀ queue n room x e z C i p q = C.but i p q (λ u. omega arith)
+climb-end queue₀ queue n room x e z C i p q = C.but i p q (λ u. omega arith)
 
 -- ---- the whole tree
 
@@ -284,8 +287,8 @@ pub record Building (queue₀ queue : List ℕ) (n room j : ℕ) : Type 0 where
 pub build-start : (queue : List ℕ) (n room : ℕ) → Sized n room (length queue) → Building queue queue n room n
 build-start queue n room S = record { sized = S; long = refl; inside = omega arith; done = λ i a b. absurd (omega arith); keys = λ x l. refl }
 
-pub build_down : (queue₀ queue next : List ℕ) (n room j : ℕ) → Building queue₀ queue n room j → 1 < j → next ≡ refreshed queue n room (j - 1) → Building queue₀ next n room (j - 1)
-build_down queue₀ queue next n room j B pos e = subst (λ q. Building queue₀ q n room (j - 1)) (sym e) (record {
+pub build-down : (queue₀ queue next : List ℕ) (n room j : ℕ) → Building queue₀ queue n room j → 1 < j → next ≡ refreshed queue n room (j - 1) → Building queue₀ next n room (j - 1)
+build-down queue₀ queue next n room j B pos e = subst (λ q. Building queue₀ q n room (j - 1)) (sym e) (record {
   sized = subst (Sized n room) (sym (made-length queue n room B.sized (j - 1) b)) B.sized;
   long = made-length queue n room B.sized (j - 1) b ∙ B.long;
   inside = omega (arith, B.inside);
@@ -296,6 +299,6 @@ build_down queue₀ queue next n room j B pos e = subst (λ q. Building queue₀
     b : j - 1 < n
     b = omega (arith, B.inside)
 
-pub build_end : (queue₀ queue : List ℕ) (n room j : ℕ) → j ≤ 1 → Building queue₀ queue n room j → Tree queue n room
+pub build-end : (queue₀ queue : List ℕ) (n room j : ℕ) → j ≤ 1 → Building queue₀ queue n room j → Tree queue n room
 unfolding Tree
-build_end queue₀ queue n room j z B i p q = B.done i (omega arith) q
+build-end queue₀ queue n room j z B i p q = B.done i (omega arith) q

@@ -37,23 +37,23 @@ fn blank(b: &mut Builder, work: &mut Work)
 }
 
 // Stage 1 from blank buffers; answers the number of slots.
-fn label_image(b: &mut Builder, work: &mut Work, input: Input) -> u32
-    requires { of_work (CanRun (input.w * input.h)) b.old work.old }
+fn label_image(b: &mut Builder, work: &mut Work, input: &Input) -> u32
+    requires { of_work (CanRun (input.now.w * input.now.h)) b.old work.old }
     ensures lists { SameLists b.old b.new }
     ensures work { SameWork work.old work.new }
-    ensures entered { of_work (of_input Entered input.entry b.old.table.now) b.new work.new result }
+    ensures entered { of_work (of_input Entered input.now b.old.table.now) b.new work.new result }
 {
     blank(b, work);
     stage1::stage_1(b, input).count
 }
 
 // Both stages; the outputs that still count something are copied.
-fn both_stages(b: &mut Builder, work: &mut Work, outputs: &mut [u32], input: Input) -> Counts
-    requires can_run { of_work (CanRun (input.w * input.h)) b.old work.old }
-    requires outputs { 2 * (input.w * input.h) ≤ length outputs.old }
+fn both_stages(b: &mut Builder, work: &mut Work, outputs: &mut [u32], input: &Input) -> Counts
+    requires can_run { of_work (CanRun (input.now.w * input.now.h)) b.old work.old }
+    requires outputs { 2 * (input.now.w * input.now.h) ≤ length outputs.old }
     ensures lists { SameLists b.old b.new }
     ensures work { SameWork work.old work.new }
-    ensures clustered { let p = input.entry in
+    ensures clustered { let p = input.now in
         Clustered (run (config_of p.o) p.w p.h p.image.now) b.old.table.now outputs.old b.new.labels.now
         b.new.links.now b.new.table.now outputs.new result.n result.m }
 {
@@ -70,10 +70,10 @@ fn clustered(
     table: &mut [u32],
     outputs: &mut [u32],
     work: &mut [u32],
-    input: Input,
+    input: &Input,
 ) -> Counts
-    requires { Lent (input.w * input.h) labels.old links.old table.old outputs.old work.old }
-    ensures { let p = input.entry in
+    requires { Lent (input.now.w * input.now.h) labels.old links.old table.old outputs.old work.old }
+    ensures { let p = input.now in
         Clustered (run (config_of p.o) p.w p.h p.image.now) table.old outputs.old labels.new links.new table.new
         outputs.new result.n result.m }
 {
@@ -118,7 +118,7 @@ pub(crate) fn accepted(o: RunnerConfig, size: Size, image: &[u8], buffers: &mut 
     let table = &mut *buffers.table;
     let outputs = &mut *buffers.outputs;
     let work = &mut *buffers.work;
-    let counts = clustered(labels, links, table, outputs, work, input);
+    let counts = clustered(labels, links, table, outputs, work, &input);
     work.fill(0);
     counts
 }

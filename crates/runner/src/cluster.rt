@@ -17,9 +17,9 @@ use image::layout;
 
 // The labels up, down, left and right of pixel p, 0 off the image.
 #[tactic(auto, unfolding(rules::specs::Grid::sides))]
-fn four_labels(b: &Builder, input: Input, p: u32) -> [u32; 4]
-    requires { (p < input.w * input.h) × (input.w * input.h ≤ length b.now.labels.now) }
-    ensures { result ≡ map (place_label b.now.labels.now) (sides input.entry.w input.entry.h p) }
+fn four_labels(b: &Builder, input: &Input, p: u32) -> [u32; 4]
+    requires { (p < input.now.w * input.now.h) × (input.now.w * input.now.h ≤ length b.now.labels.now) }
+    ensures { result ≡ map (place_label b.now.labels.now) (sides input.now.w input.now.h p) }
 {
     let (w, h) = (input.w, input.h);
     let x = p % w;
@@ -106,11 +106,11 @@ fn note(b: &Builder, marks: &mut [u32], v: Visit, l: u32, found: Nearest) -> Nea
 
 // Whether the pixels before and after p, and those a row above and below it, are all of the cluster: then p has no
 // neighbour to note, wherever the image ends. It saves the division by w for most pixels.
-fn is_inside(b: &Builder, input: Input, own: u32, p: u32) -> bool
+fn is_inside(b: &Builder, input: &Input, own: u32, p: u32) -> bool
     requires { p < length b.now.labels.now }
     ensures { result ≡ true → (key : ℕ → ℕ) (visit : ℕ) (s : Scan)
         → noted_four key own visit
-        (map (place_label b.now.labels.now) (sides input.entry.w input.entry.h p)) s ≡ s }
+        (map (place_label b.now.labels.now) (sides input.now.w input.now.h p)) s ≡ s }
 {
     let i = p as usize;
     let row = input.w as usize;
@@ -124,16 +124,16 @@ fn is_inside(b: &Builder, input: Input, own: u32, p: u32) -> bool
 }
 
 // The labels around pixel p, in turn.
-fn look(b: &Builder, marks: &mut [u32], input: Input, v: Visit, p: u32, found: Nearest) -> Nearest
-    requires pixel { (p < input.w * input.h) × (input.w * input.h ≤ length b.now.labels.now) }
+fn look(b: &Builder, marks: &mut [u32], input: &Input, v: Visit, p: u32, found: Nearest) -> Nearest
+    requires pixel { (p < input.now.w * input.now.h) × (input.now.w * input.now.h ≤ length b.now.labels.now) }
     requires notable { (i : ℕ) → i < 4
-        → get_or (map (place_label b.now.labels.now) (sides input.w input.h p)) i 0 ≢ 0
+        → get_or (map (place_label b.now.labels.now) (sides input.now.w input.now.h p)) i 0 ≢ 0
         → Notable b.now.table.now (length marks.old)
-        (get_or (map (place_label b.now.labels.now) (sides input.w input.h p)) i 0) }
+        (get_or (map (place_label b.now.labels.now) (sides input.now.w input.now.h p)) i 0) }
     requires count_bound { found.count + 4 ≤ 4294967295 }
     ensures { record { marks = marks.new; nearest = result }
         ≡ noted_four (diff_from b.now.table.now (color_of v.mine)) v.own v.number
-        (map (place_label b.now.labels.now) (sides input.entry.w input.entry.h p))
+        (map (place_label b.now.labels.now) (sides input.now.w input.now.h p))
         (record { marks = marks.old; nearest = found }) }
 {
     if is_inside(b, input, v.own, p) {
@@ -150,12 +150,12 @@ fn look(b: &Builder, marks: &mut [u32], input: Input, v: Visit, p: u32, found: N
 pub(crate) fn neighbours(
     b: &Builder,
     marks: &mut [u32],
-    input: Input,
+    input: &Input,
     k: u32,
     visit: u32,
 ) -> Nearest
-    requires { Scannable b.now.labels.now b.now.links.now b.now.table.now marks.old input.w input.h k visit }
-    ensures { Found b.now.labels.now b.now.links.now b.now.table.now input.entry.w input.entry.h k visit result
+    requires { Scannable b.now.labels.now b.now.links.now b.now.table.now marks.old input.now.w input.now.h k visit }
+    ensures { Found b.now.labels.now b.now.links.now b.now.table.now input.now.w input.now.h k visit result
         marks.new }
 {
     let v = Visit {

@@ -15,20 +15,20 @@ use super::queue::Entry;
 use super::{keying, slot};
 
 // Whether pixel q is in the list of cluster k, by its label.
-fn in_list(b: &Builder, input: Input, k: u32, q: u32) -> bool
-    requires { (q < input.w * input.h) × (input.w * input.h ≡ length b.now.labels.now) }
-    ensures { result ≡ in_list (config_of input.entry.o) input.entry.image.now b.now.labels.now k q }
+fn in_list(b: &Builder, input: &Input, k: u32, q: u32) -> bool
+    requires { (q < input.now.w * input.now.h) × (input.now.w * input.now.h ≡ length b.now.labels.now) }
+    ensures { result ≡ in_list (config_of input.now.o) input.now.image.now b.now.labels.now k q }
 {
     b.labels[q as usize] == k && !keying::is_discarded(input.image, input.o, q)
 }
 
 // Whether pixel p has its four neighbours in the list of cluster k.
 #[tactic(auto, unfolding(rules::specs::Grid::sides, rules::specs::Stage2::all_in))]
-fn surrounded(b: &Builder, input: Input, k: u32, p: u32) -> bool
-    requires { (p < input.w * input.h) × (input.w * input.h ≡ length b.now.labels.now) }
+fn surrounded(b: &Builder, input: &Input, k: u32, p: u32) -> bool
+    requires { (p < input.now.w * input.now.h) × (input.now.w * input.now.h ≡ length b.now.labels.now) }
     ensures { result
-        ≡ all_in (in_list (config_of input.entry.o) input.entry.image.now b.now.labels.now k)
-        (sides input.entry.w input.entry.h p) }
+        ≡ all_in (in_list (config_of input.now.o) input.now.image.now b.now.labels.now k)
+        (sides input.now.w input.now.h p) }
 {
     let (w, h) = (input.w, input.h);
     let x = p % w;
@@ -44,13 +44,13 @@ fn surrounded(b: &Builder, input: Input, k: u32, p: u32) -> bool
 
 // Whether some pixel of the list of an entry's cluster has its four neighbours in that list.
 #[tactic(auto, unfolding(crate::specs::Code::Interior::some_inside), using(rules::proofs::Walks::walk_none, rules::proofs::Walks::step))]
-pub(crate) fn has_interior(b: &Builder, input: Input, e: Entry) -> bool
+pub(crate) fn has_interior(b: &Builder, input: &Input, e: Entry) -> bool
     requires slot { InTable e.slot b.now.table.now }
-    requires pixels { (input.w * input.h ≡ length b.now.labels.now) × (input.w * input.h ≤ length b.now.links.now) }
+    requires pixels { (input.now.w * input.now.h ≡ length b.now.labels.now) × (input.now.w * input.now.h ≤ length b.now.links.now) }
     requires list { T
-        (reads (input.w * input.h) b.now.links.now (get_or b.now.table.now (slot_width * e.slot + first_pixel_place) 0)
+        (reads (input.now.w * input.now.h) b.now.links.now (get_or b.now.table.now (slot_width * e.slot + first_pixel_place) 0)
         e.key) }
-    ensures { let p = input.entry in result
+    ensures { let p = input.now in result
         ≡ some_inside (config_of p.o) p.image.now b.now.labels.now p.w p.h e.slot
         (walk (λ p. get_or b.now.links.now p 0)
         (get_or b.now.table.now (slot_width * e.slot + first_pixel_place) 0) e.key) }

@@ -12,7 +12,7 @@ ghost use Rattle.runner.specs.Code.Queue.{Refreshed, Built, KeySet, NextPending}
 pub(crate) const NONE: u32 = 4294967295;
 
 // A slot with its key.
-#[derive(Clone, Copy, PartialEq)]
+#[derive(Clone, Copy)]
 pub(crate) struct Entry {
     pub(crate) key: u32,
     pub(crate) slot: u32,
@@ -86,9 +86,10 @@ pub(crate) fn build(queue: &mut [u32], n: usize, room: usize)
     }
 }
 
-// The node above position x, where e stands, takes the first of its children; answers it, or None where the node held it
-// already: then no node above changes either.
-#[tactic(auto, using(crate::proofs::Tournament::first_beside, crate::proofs::Tournament::held_node, crate::proofs::Tournament::kept_node))]
+// The node above position x, where e stands, takes the first of its children; answers it, or None where the node held
+// it already: then no node above changes either. Key and slot are compared without a branch between: it is hard to
+// foretell.
+#[tactic(auto, using(crate::proofs::Tournament::takes_first))]
 fn refresh(queue: &mut [u32], n: usize, room: usize, x: usize, e: Entry) -> Option<Entry>
     requires sized { Sized n room (length queue.old) }
     requires lt_x { (1 < x) × (x < 2 * n) }
@@ -96,7 +97,8 @@ fn refresh(queue: &mut [u32], n: usize, room: usize, x: usize, e: Entry) -> Opti
     ensures { Refreshed queue.old queue.new n room (x / 2) result }
 {
     let first = first_entry(e, at(queue, n, room, beside(x)));
-    if at(queue, n, room, x / 2) == first {
+    let old = at(queue, n, room, x / 2);
+    if (old.key == first.key) & (old.slot == first.slot) {
         return None;
     }
     hold(queue, n, room, x / 2, first);

@@ -71,9 +71,9 @@ pub(crate) fn add_span(b: &mut Builder, image: &[u8], k: u32, at: Pixel, n: u32)
 }
 
 // Whether pixel i, behind the first column and the first row, extends cluster k.
-fn extends(input: Input, labels: &[u32], i: u32, k: u32) -> bool
-    requires { (input.w + 1 ≤ i) × (i < length labels.now) × (4 * i + 4 ≤ length input.image.now) }
-    ensures { result ≡ true → Extends (config_of input.entry.o) input.entry.w input.entry.image.now labels.now k i }
+fn extends(input: &Input, labels: &[u32], i: u32, k: u32) -> bool
+    requires { (input.now.w + 1 ≤ i) × (i < length labels.now) × (4 * i + 4 ≤ length input.now.image.now) }
+    ensures { result ≡ true → Extends (config_of input.now.o) input.now.w input.now.image.now labels.now k i }
 {
     let image = input.image;
     if labels[(i - input.w) as usize] != k {
@@ -151,11 +151,11 @@ fn four_free(image: &[u8], o: RunnerConfig, i: u32) -> bool
 }
 
 // Whether the four pixels from i on, behind the first column and the first row, extend cluster k.
-fn four_extend(input: Input, labels: &[u32], limits: &[u8; 16], i: u32, k: u32) -> bool
-    requires w_bound { (input.w + 1 ≤ i) × (i + 4 ≤ length labels.now) × (4 * i + 16 ≤ length input.image.now) }
+fn four_extend(input: &Input, labels: &[u32], limits: &[u8; 16], i: u32, k: u32) -> bool
+    requires w_bound { (input.now.w + 1 ≤ i) × (i + 4 ≤ length labels.now) × (4 * i + 16 ≤ length input.now.image.now) }
     requires i_lt_count_bound { i < count_bound }
-    ensures { result ≡ true → Fitting (config_of input.entry.o) input.entry.shift limits.now
-        → AllExtend (config_of input.entry.o) input.entry.w input.entry.image.now labels.now k i 4 }
+    ensures { result ≡ true → Fitting (config_of input.now.o) input.now.shift limits.now
+        → AllExtend (config_of input.now.o) input.now.w input.now.image.now labels.now k i 4 }
 {
     if !four_in_cluster(labels, i - input.w, k) {
         return false;
@@ -167,12 +167,12 @@ fn four_extend(input: Input, labels: &[u32], limits: &[u8; 16], i: u32, k: u32) 
 }
 
 // How many pixels from i on, of `room`, extend cluster k, as far as they do so by fours.
-fn fours(input: Input, labels: &[u32], limits: &[u8; 16], i: u32, k: u32, room: u32) -> u32
-    requires w_bound { (input.w + 1 ≤ i) × (i + room ≤ length labels.now)
-        × (4 * (i + room) ≤ length input.image.now) }
+fn fours(input: &Input, labels: &[u32], limits: &[u8; 16], i: u32, k: u32, room: u32) -> u32
+    requires w_bound { (input.now.w + 1 ≤ i) × (i + room ≤ length labels.now)
+        × (4 * (i + room) ≤ length input.now.image.now) }
     requires room_bound { i + room < count_bound }
-    ensures { (result ≤ room) × (Fitting (config_of input.entry.o) input.entry.shift limits.now
-        → AllExtend (config_of input.entry.o) input.entry.w input.entry.image.now labels.now k i result) }
+    ensures { (result ≤ room) × (Fitting (config_of input.now.o) input.now.shift limits.now
+        → AllExtend (config_of input.now.o) input.now.w input.now.image.now labels.now k i result) }
 {
     for four in 0..room / 4 {
         let n = 4 * four;
@@ -184,16 +184,13 @@ fn fours(input: Input, labels: &[u32], limits: &[u8; 16], i: u32, k: u32, room: 
 }
 
 // How many pixels from a pixel on extend the cluster of the pixel to its left.
-pub(crate) fn span_length(input: Input, b: &Builder, limits: &[u8; 16], at: Pixel) -> u32
-    requires row_rest { RowRest input.w at.i at.x at.y input.image.now b.now.labels.now }
-    requires limits_of { LimitsOf (config_of input.o) limits.now }
-    ensures { FoundSpan (config_of input.entry.o) input.entry.shift input.entry.w input.entry.image.now b.now.labels.now
+pub(crate) fn span_length(input: &Input, b: &Builder, limits: &[u8; 16], at: Pixel) -> u32
+    requires row_rest { RowRest input.now.w at.i at.x at.y input.now.image.now b.now.labels.now }
+    requires limits_of { LimitsOf (config_of input.now.o) limits.now }
+    ensures { FoundSpan (config_of input.now.o) input.now.shift input.now.w input.now.image.now b.now.labels.now
         at.i at.x at.y result }
 {
-    if at.x == 0 {
-        return 0;
-    }
-    if at.y == 0 {
+    if at.x == 0 || at.y == 0 {
         return 0;
     }
     let i = at.i;
@@ -203,7 +200,8 @@ pub(crate) fn span_length(input: Input, b: &Builder, limits: &[u8; 16], at: Pixe
         return 0;
     }
     let room = input.w - at.x;
-    for n in 1 + fours(input, labels, limits, i + 1, k, room - 1)..room {
+    let found = 1 + fours(input, labels, limits, i + 1, k, room - 1);
+    for n in found..room {
         if !extends(input, labels, i + n, k) {
             return n;
         }

@@ -66,9 +66,9 @@ struct Target {
 }
 
 // The pixel to the left; none at the border.
-fn left_of(input: Input, at: Pixel) -> Option<Color>
-    requires { Spot input.w input.h at.i at.x at.y }
-    ensures { option_of result ≡ rules.color_at input.entry.image.now (grid.left input.entry.w at.i) }
+fn left_of(input: &Input, at: Pixel) -> Option<Color>
+    requires { Spot input.now.w input.now.h at.i at.x at.y }
+    ensures { option_of result ≡ rules.color_at input.now.image.now (grid.left input.now.w at.i) }
 {
     if at.x == 0 {
         return None;
@@ -77,9 +77,9 @@ fn left_of(input: Input, at: Pixel) -> Option<Color>
 }
 
 // The pixel above.
-fn up_of(input: Input, at: Pixel) -> Option<Color>
-    requires { Spot input.w input.h at.i at.x at.y }
-    ensures { option_of result ≡ rules.color_at input.entry.image.now (grid.up input.entry.w at.i) }
+fn up_of(input: &Input, at: Pixel) -> Option<Color>
+    requires { Spot input.now.w input.now.h at.i at.x at.y }
+    ensures { option_of result ≡ rules.color_at input.now.image.now (grid.up input.now.w at.i) }
 {
     if at.y == 0 {
         return None;
@@ -88,9 +88,9 @@ fn up_of(input: Input, at: Pixel) -> Option<Color>
 }
 
 // The pixel to the left of the one above.
-fn up_left_of(input: Input, at: Pixel) -> Option<Color>
-    requires { Spot input.w input.h at.i at.x at.y }
-    ensures { option_of result ≡ rules.color_at input.entry.image.now (grid.up_left input.entry.w at.i) }
+fn up_left_of(input: &Input, at: Pixel) -> Option<Color>
+    requires { Spot input.now.w input.now.h at.i at.x at.y }
+    ensures { option_of result ≡ rules.color_at input.now.image.now (grid.up_left input.now.w at.i) }
 {
     if at.y == 0 {
         return None;
@@ -106,9 +106,9 @@ fn up_left_of(input: Input, at: Pixel) -> Option<Color>
 }
 
 // What is seen from a pixel. It is on the image, so its own colour is never none.
-fn seen_from(input: Input, at: Pixel) -> Seen
-    requires { Spot input.w input.h at.i at.x at.y }
-    ensures { SeenAt input.entry.w input.entry.image.now at.i result }
+fn seen_from(input: &Input, at: Pixel) -> Seen
+    requires { Spot input.now.w input.now.h at.i at.x at.y }
+    ensures { SeenAt input.now.w input.now.image.now at.i result }
 {
     let own = color::pixel_at(input.image, input.w, input.h, at.x, at.y).unwrap();
     Seen {
@@ -120,18 +120,18 @@ fn seen_from(input: Input, at: Pixel) -> Seen
 }
 
 // Whether two pixels are like under the settings.
-pub(crate) fn is_same(input: Input, a: Option<Color>, b: Option<Color>) -> bool
-    ensures { (p q : Option ℕ) → option_of a ≡ rules.color_at input.entry.image.now p
-        → option_of b ≡ rules.color_at input.entry.image.now q
-        → result ≡ rules.same_at (config_of input.entry.o) input.entry.image.now p q }
+pub(crate) fn is_same(input: &Input, a: Option<Color>, b: Option<Color>) -> bool
+    ensures { (p q : Option ℕ) → option_of a ≡ rules.color_at input.now.image.now p
+        → option_of b ≡ rules.color_at input.now.image.now q
+        → result ≡ rules.same_at (config_of input.now.o) input.now.image.now p q }
 {
     color::is_same(a, b, input.shift, input.o.is_same_color_b)
 }
 
 // Step 1, the condition, with l and u for the labels of left and up.
-fn left_meets_up(input: Input, l: u32, u: u32, p: Seen) -> bool
-    ensures { (i : ℕ) → SeenAt input.entry.w input.entry.image.now i p
-        → result ≡ meets (config_of input.entry.o) input.entry.w input.entry.image.now i l u }
+fn left_meets_up(input: &Input, l: u32, u: u32, p: Seen) -> bool
+    ensures { (i : ℕ) → SeenAt input.now.w input.now.image.now i p
+        → result ≡ meets (config_of input.now.o) input.now.w input.now.image.now i l u }
 {
     if l == u {
         return false;
@@ -146,9 +146,9 @@ fn left_meets_up(input: Input, l: u32, u: u32, p: Seen) -> bool
 }
 
 // Steps 3 to 5: which cluster the pixel joins.
-fn joins(input: Input, p: Seen) -> Into
-    ensures { (i : ℕ) → SeenAt input.entry.w input.entry.image.now i p
-        → result ≡ joined (config_of input.entry.o) input.entry.w input.entry.image.now i }
+fn joins(input: &Input, p: Seen) -> Into
+    ensures { (i : ℕ) → SeenAt input.now.w input.now.image.now i p
+        → result ≡ joined (config_of input.now.o) input.now.w input.now.image.now i }
 {
     let c = Some(p.own);
     if is_same(input, c, p.up_left) {
@@ -163,9 +163,9 @@ fn joins(input: Input, p: Seen) -> Into
 }
 
 // Steps 2 to 5: where the pixel goes.
-fn goes_into(input: Input, p: Seen) -> Into
-    ensures { (i : ℕ) → SeenAt input.entry.w input.entry.image.now i p
-        → result ≡ goes_into (config_of input.entry.o) input.entry.w input.entry.image.now i }
+fn goes_into(input: &Input, p: Seen) -> Into
+    ensures { (i : ℕ) → SeenAt input.now.w input.now.image.now i p
+        → result ≡ goes_into (config_of input.now.o) input.now.w input.now.image.now i }
 {
     if keying::is_key_color(input.o, p.own) {
         if keying::is_discard(input.o) {
@@ -220,12 +220,12 @@ fn slot_for(table: &mut [u32], to: Into, v: Sides) -> Target
 }
 
 // Steps 2 to 5.
-fn place(b: &mut Builder, input: Input, p: Seen, v: Sides, at: Pixel) -> Slots
-    requires { (st : State) × (t₀ : List ℕ) × SeenAt input.w input.image.now at.i p
-        × of_lists (Placing (config_of input.o) input.w input.h input.image.now input.shift at.i at.x at.y
+fn place(b: &mut Builder, input: &Input, p: Seen, v: Sides, at: Pixel) -> Slots
+    requires { (st : State) × (t₀ : List ℕ) × SeenAt input.now.w input.now.image.now at.i p
+        × of_lists (Placing (config_of input.now.o) input.now.w input.now.h input.now.image.now input.now.shift at.i at.x at.y
         v.left v.up st t₀) b.old v.slots.next_index v.slots.count }
     ensures loans { SameLists b.old b.new }
-    ensures holding { let e = input.entry in (st : State) (t₀ : List ℕ) → SeenAt e.w e.image.now at.i p
+    ensures holding { let e = input.now in (st : State) (t₀ : List ℕ) → SeenAt e.w e.image.now at.i p
         → of_lists (Placing (config_of e.o) e.w e.h e.image.now e.shift at.i at.x at.y v.left v.up st t₀)
         b.old v.slots.next_index v.slots.count
         → of_lists (Holding (e.w * e.h) (rules.place (config_of e.o) e.w e.image.now at.i v.left v.up st) t₀)
@@ -310,12 +310,12 @@ fn left_label(b: &Builder, at: Pixel) -> u32
 }
 
 // Step 1: the labels of left and up, whose clusters are combined where they meet.
-fn meet(b: &mut Builder, input: Input, p: Seen, s: Slots, at: Pixel) -> Sides
-    requires { (t₀ : List ℕ) × SeenAt input.w input.image.now at.i p
-        × of_lists (Taking (config_of input.o) input.w input.h input.image.now input.shift at.i at.x at.y t₀)
+fn meet(b: &mut Builder, input: &Input, p: Seen, s: Slots, at: Pixel) -> Sides
+    requires { (t₀ : List ℕ) × SeenAt input.now.w input.now.image.now at.i p
+        × of_lists (Taking (config_of input.now.o) input.now.w input.now.h input.now.image.now input.now.shift at.i at.x at.y t₀)
         b.old s.next_index s.count }
     ensures loans { SameLists b.old b.new }
-    ensures sided { let e = input.entry in (t₀ : List ℕ) → SeenAt e.w e.image.now at.i p
+    ensures sided { let e = input.now in (t₀ : List ℕ) → SeenAt e.w e.image.now at.i p
         → of_lists (Taking (config_of e.o) e.w e.h e.image.now e.shift at.i at.x at.y t₀) b.old s.next_index s.count
         → of_lists (Sided (config_of e.o) e.w e.h e.image.now e.shift at.i at.x at.y
         (rules.taken (config_of e.o) e.w e.image.now (e.w * e.h) (suc at.i)) t₀)
@@ -334,12 +334,12 @@ fn meet(b: &mut Builder, input: Input, p: Seen, s: Slots, at: Pixel) -> Sides
 }
 
 // A pixel is taken.
-fn take_pixel(b: &mut Builder, input: Input, s: Slots, at: Pixel) -> Slots
+fn take_pixel(b: &mut Builder, input: &Input, s: Slots, at: Pixel) -> Slots
     requires { (t₀ : List ℕ)
-        × of_lists (Taking (config_of input.o) input.w input.h input.image.now input.shift at.i at.x at.y t₀)
+        × of_lists (Taking (config_of input.now.o) input.now.w input.now.h input.now.image.now input.now.shift at.i at.x at.y t₀)
         b.old s.next_index s.count }
     ensures loans { SameLists b.old b.new }
-    ensures holding { let e = input.entry in (t₀ : List ℕ)
+    ensures holding { let e = input.now in (t₀ : List ℕ)
         → of_lists (Taking (config_of e.o) e.w e.h e.image.now e.shift at.i at.x at.y t₀) b.old s.next_index s.count
         → of_lists (Holding (e.w * e.h) (rules.taken (config_of e.o) e.w e.image.now (e.w * e.h) (suc at.i)) t₀)
         b.new result.next_index result.count }
@@ -357,14 +357,14 @@ struct Step {
 }
 
 // A pixel is taken, and with it the rest of its span.
-fn take_pixels(b: &mut Builder, input: Input, limits: &[u8; 16], s: Slots, at: Pixel) -> Step
-    requires limits_of { LimitsOf (config_of input.o) limits.now }
+fn take_pixels(b: &mut Builder, input: &Input, limits: &[u8; 16], s: Slots, at: Pixel) -> Step
+    requires limits_of { LimitsOf (config_of input.now.o) limits.now }
     requires taking { (t₀ : List ℕ)
-        × of_lists (Taking (config_of input.o) input.w input.h input.image.now input.shift at.i at.x at.y t₀)
+        × of_lists (Taking (config_of input.now.o) input.now.w input.now.h input.now.image.now input.now.shift at.i at.x at.y t₀)
         b.old s.next_index s.count }
     ensures loans { SameLists b.old b.new }
-    ensures pixels { (0 < result.pixels) × (at.x + result.pixels ≤ input.entry.w) }
-    ensures holding { let e = input.entry in (t₀ : List ℕ)
+    ensures pixels { (0 < result.pixels) × (at.x + result.pixels ≤ input.now.w) }
+    ensures holding { let e = input.now in (t₀ : List ℕ)
         → of_lists (Taking (config_of e.o) e.w e.h e.image.now e.shift at.i at.x at.y t₀) b.old s.next_index s.count
         → of_lists (Holding (e.w * e.h)
         (rules.taken (config_of e.o) e.w e.image.now (e.w * e.h) (at.i + result.pixels)) t₀)
@@ -406,10 +406,10 @@ fn pixel_past(w: u32, at: Pixel, n: u32) -> Pixel
 }
 
 // All pixels, row by row.
-pub(crate) fn stage_1(b: &mut Builder, input: Input) -> Slots
-    requires { of_lists (Blank (input.w * input.h)) b.old }
+pub(crate) fn stage_1(b: &mut Builder, input: &Input) -> Slots
+    requires { of_lists (Blank (input.now.w * input.now.h)) b.old }
     ensures loans { SameLists b.old b.new }
-    ensures holding { let e = input.entry in
+    ensures holding { let e = input.now in
         of_lists (Holding (e.w * e.h) (run.stage1 (config_of e.o) e.w e.h e.image.now) b.old.table.now)
         b.new result.next_index result.count }
 {

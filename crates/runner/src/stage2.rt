@@ -90,17 +90,17 @@ fn exceeds(d: u32, z: i32) -> bool
 // Whether the cluster of an entry may stay a patch, after `patch_good` of runner.rs: a boundary smaller than the area is
 // told by one pixel inside.
 #[tactic(auto, unfolding(crate::specs::Code::Stage2::patch_good_at))]
-fn patch_good(b: &Builder, input: Input, e: Entry) -> bool
+fn patch_good(b: &Builder, input: &Input, e: Entry) -> bool
     requires slot { InTable e.slot b.now.table.now }
-    requires pixels { (input.w * input.h ≡ length b.now.labels.now) × (input.w * input.h ≤ length b.now.links.now) }
+    requires pixels { (input.now.w * input.now.h ≡ length b.now.labels.now) × (input.now.w * input.now.h ≤ length b.now.links.now) }
     requires list { T
-        (reads (input.w * input.h) b.now.links.now (get_or b.now.table.now (slot_width * e.slot + first_pixel_place) 0)
+        (reads (input.now.w * input.now.h) b.now.links.now (get_or b.now.table.now (slot_width * e.slot + first_pixel_place) 0)
         e.key) }
-    ensures { let p = input.entry in result
+    ensures { let p = input.now in result
         ≡ patch_good_at (config_of p.o) p.image.now b.now.labels.now b.now.links.now p.w p.h e.slot
         (get_or b.now.table.now (slot_width * e.slot + first_pixel_place) 0) e.key }
 {
-    let o = input.o;
+    let o = &input.o;
     o.good_min_area < e.key
         && e.key < o.good_max_area
         && (o.good_min_area == 0 || geometry::has_interior(b, input, e))
@@ -108,18 +108,18 @@ fn patch_good(b: &Builder, input: Input, e: Entry) -> bool
 
 // Whether it deepens into a neighbour of difference diff.
 #[tactic(auto, unfolding(crate::specs::Code::Stage2::deepens_at))]
-fn deepens(b: &Builder, input: Input, e: Entry, diff: u32) -> bool
+fn deepens(b: &Builder, input: &Input, e: Entry, diff: u32) -> bool
     requires slot { InTable e.slot b.now.table.now }
-    requires pixels { (input.w * input.h ≡ length b.now.labels.now) × (input.w * input.h ≤ length b.now.links.now) }
+    requires pixels { (input.now.w * input.now.h ≡ length b.now.labels.now) × (input.now.w * input.now.h ≤ length b.now.links.now) }
     requires list { T
-        (reads (input.w * input.h) b.now.links.now (get_or b.now.table.now (slot_width * e.slot + first_pixel_place) 0)
+        (reads (input.now.w * input.now.h) b.now.links.now (get_or b.now.table.now (slot_width * e.slot + first_pixel_place) 0)
         e.key) }
     requires diff_bound { diff < 2147483648 }
-    ensures { let p = input.entry in result
+    ensures { let p = input.now in result
         ≡ deepens_at (config_of p.o) p.image.now b.now.labels.now b.now.links.now p.w p.h e.slot
         (get_or b.now.table.now (slot_width * e.slot + first_pixel_place) 0) e.key diff }
 {
-    let o = input.o;
+    let o = &input.o;
     o.hierarchical == HIERARCHICAL_MAX && exceeds(diff, o.deepen_diff) && patch_good(b, input, e)
 }
 
@@ -133,9 +133,9 @@ fn put_out(staged: &mut [u32], t: Turns, k: u32) -> Turns
 }
 
 // The target's new pixel count: it is pending again, and may be the largest.
-fn grown(b: &Builder, queue: &mut [u32], input: Input, t: Turns, to: u32) -> Turns
-    requires { CanGrow (input.w * input.h + 1) t.n to b.now.table.now queue.old }
-    ensures { Grown (input.entry.w * input.entry.h + 1) to t result b.now.table.now queue.old queue.new }
+fn grown(b: &Builder, queue: &mut [u32], input: &Input, t: Turns, to: u32) -> Turns
+    requires { CanGrow (input.now.w * input.now.h + 1) t.n to b.now.table.now queue.old }
+    ensures { Grown (input.now.w * input.now.h + 1) to t result b.now.table.now queue.old queue.new }
 {
     let room = (input.w * input.h) as usize + 1;
     let count = b.count_of(to);
@@ -150,16 +150,16 @@ fn grown(b: &Builder, queue: &mut [u32], input: Input, t: Turns, to: u32) -> Tur
 fn deepen_into_nearest(
     b: &mut Builder,
     work: &mut Work,
-    input: Input,
+    input: &Input,
     t: Turns,
     k: u32,
     near: Nearest,
 ) -> Turns
-    requires { (t₀ : List ℕ) × (a : ℕ) × of_work (of_input Deepening input t₀) b.old work.old t k a near }
+    requires { (t₀ : List ℕ) × (a : ℕ) × of_work (of_input Deepening input.now t₀) b.old work.old t k a near }
     ensures lists { SameLists b.old b.new }
     ensures work { SameWork work.old work.new }
-    ensures visited { (t₀ : List ℕ) (a : ℕ) → of_work (of_input Deepening input.entry t₀) b.old work.old t k a near
-        → of_work (of_input Visited input.entry t₀) b.new work.new t result k }
+    ensures visited { (t₀ : List ℕ) (a : ℕ) → of_work (of_input Deepening input.now t₀) b.old work.old t k a near
+        → of_work (of_input Visited input.now t₀) b.new work.new t result k }
 {
     let to = near.target;
     let put = put_out(work.staged, t, k);
@@ -175,18 +175,18 @@ fn deepen_into_nearest(
 fn merge_into_nearest(
     b: &mut Builder,
     work: &mut Work,
-    input: Input,
+    input: &Input,
     t: Turns,
     e: Entry,
     near: Nearest,
 ) -> Turns
-    requires by_index { (t₀ : List ℕ) × of_work (of_input Visiting input t₀) b.old work.old t e.slot e.key (t.turns + 1) }
-    requires aimed { of_input Aimed input t.turns e.slot near }
+    requires by_index { (t₀ : List ℕ) × of_work (of_input Visiting input.now t₀) b.old work.old t e.slot e.key (t.turns + 1) }
+    requires aimed { of_input Aimed input.now t.turns e.slot near }
     ensures lists { SameLists b.old b.new }
     ensures work { SameWork work.old work.new }
     ensures visited { (t₀ : List ℕ)
-        → of_work (of_input Visiting input.entry t₀) b.old work.old t e.slot e.key (t.turns + 1)
-        → of_work (of_input Visited input.entry t₀) b.new work.new t result e.slot }
+        → of_work (of_input Visiting input.now t₀) b.old work.old t e.slot e.key (t.turns + 1)
+        → of_work (of_input Visited input.now t₀) b.new work.new t result e.slot }
 {
     if deepens(b, input, e, near.diff) {
         return deepen_into_nearest(b, work, input, t, e.slot, near);
@@ -209,12 +209,12 @@ fn isolated(staged: &mut [u32], o: RunnerConfig, t: Turns, e: Entry) -> Turns
 }
 
 // The slot of an entry is visited. A cluster of all pixels has no neighbour, and its list need not be read.
-fn visit(b: &mut Builder, work: &mut Work, input: Input, t: Turns, e: Entry) -> Turns
-    requires { (t₀ : List ℕ) × of_work (of_input Visiting input t₀) b.old work.old t e.slot e.key t.turns }
+fn visit(b: &mut Builder, work: &mut Work, input: &Input, t: Turns, e: Entry) -> Turns
+    requires { (t₀ : List ℕ) × of_work (of_input Visiting input.now t₀) b.old work.old t e.slot e.key t.turns }
     ensures lists { SameLists b.old b.new }
     ensures work { SameWork work.old work.new }
-    ensures visited { (t₀ : List ℕ) → of_work (of_input Visiting input.entry t₀) b.old work.old t e.slot e.key t.turns
-        → of_work (of_input Visited input.entry t₀) b.new work.new t result e.slot }
+    ensures visited { (t₀ : List ℕ) → of_work (of_input Visiting input.now t₀) b.old work.old t e.slot e.key t.turns
+        → of_work (of_input Visited input.now t₀) b.new work.new t result e.slot }
 {
     if input.o.hierarchical < e.key {
         return put_out(work.staged, t, e.slot);
@@ -230,13 +230,13 @@ fn visit(b: &mut Builder, work: &mut Work, input: Input, t: Turns, e: Entry) -> 
 }
 
 // One turn: the first pending slot is taken off the queue and visited.
-fn turn(b: &mut Builder, work: &mut Work, input: Input, t: Turns, e: Entry) -> Turns
-    requires by_index { (t₀ : List ℕ) × of_work (of_input Between input t₀) b.old work.old t }
-    requires chosen { of_input Chosen input t.turns e.slot e.key }
+fn turn(b: &mut Builder, work: &mut Work, input: &Input, t: Turns, e: Entry) -> Turns
+    requires by_index { (t₀ : List ℕ) × of_work (of_input Between input.now t₀) b.old work.old t }
+    requires chosen { of_input Chosen input.now t.turns e.slot e.key }
     ensures lists { SameLists b.old b.new }
     ensures work { SameWork work.old work.new }
-    ensures turned { (t₀ : List ℕ) → of_work (of_input Between input.entry t₀) b.old work.old t
-        → of_work (of_input Between input.entry t₀) b.new work.new result }
+    ensures turned { (t₀ : List ℕ) → of_work (of_input Between input.now t₀) b.old work.old t
+        → of_work (of_input Between input.now t₀) b.new work.new result }
     ensures turns { result.turns ≡ t.turns + 1 }
 {
     let room = (input.w * input.h) as usize + 1;
@@ -249,11 +249,11 @@ fn turn(b: &mut Builder, work: &mut Work, input: Input, t: Turns, e: Entry) -> T
 }
 
 // Until no slot is pending.
-pub(crate) fn stage_2(b: &mut Builder, work: &mut Work, input: Input, n: u32) -> Turns
-    requires { (t₀ : List ℕ) × of_work (of_input Entered input t₀) b.old work.old n }
+pub(crate) fn stage_2(b: &mut Builder, work: &mut Work, input: &Input, n: u32) -> Turns
+    requires { (t₀ : List ℕ) × of_work (of_input Entered input.now t₀) b.old work.old n }
     ensures lists { SameLists b.old b.new }
     ensures work { SameWork work.old work.new }
-    ensures staged { let p = input.entry in (t₀ : List ℕ) → of_work (of_input Entered p t₀) b.old work.old n
+    ensures staged { let p = input.now in (t₀ : List ℕ) → of_work (of_input Entered p t₀) b.old work.old n
         → of_work
         (Staged (p.w * p.h)
         (stage2 (config_of p.o) p.w p.h (stage1 (config_of p.o) p.w p.h p.image.now)) t₀) b.new work.new result.n result.m }

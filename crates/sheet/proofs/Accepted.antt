@@ -1,15 +1,52 @@
 -- What the passed checks of a row and of storing show. Assumes nothing.
 use Rattle.std.specs.Prelude.{if◌then◌else◌}
-use mathlib.Core.Path.{◌≡◌}
-use mathlib.Core.Bool.{Bool, false, not, ◌||◌}
+use mathlib.Core.Path.{◌≡◌, refl}
+use mathlib.Core.Bool.{Bool, true, false, not, ◌||◌}
 use mathlib.Core.List.{List, [], ◌∷◌, ◌++◌}
 use Prim.Native.Nat.{ℕ, ◌*◌, ◌≤◌, ◌<◌}
 use native.Mathlib.Omega.{arith}
-use borrow.Author.Tests.{leb-false, ltb-false}
+use borrow.Author.Tests.{leb-false, ltb-false, ne_eqb}
+use Rattle.std.specs.Prelude.{Result, Ok, Err}
+use Rattle.std.specs.Result.{is_err}
+use Rattle.refusal.specs.Refusal.{number_of, answer_of}
+use Rattle.refusal.specs.declared.Refusal.{Refusal}
+use Rattle.refusal.specs.declared.Refusal.TheVariants.{Shift, NoPixels, TooManyPixels, ImageLength, BufferLength, PictureLength, SumTooLarge, NoSlot, NoAverage, BadList, NoRow, LargeNumber, DestinationLength}
 use lib.Dec.{leb, ltb, eqb}
 use Rattle.rules.specs.Refusals.{Check, refusal, first_failed, size_checks, limit, short_sheet, bad_counts, row_answer, store_answer}
-use Rattle.rules.proofs.Accepted.{passed, neither, long-sheet, good-counts, equal, failed-later}
+use Rattle.rules.proofs.Accepted.{passed, neither, long-sheet, good-counts, equal, Numbered, failed-later}
 use Rattle.sheet.specs.Code.Lengths.{CanStore}
+
+-- no refusal has the number 0
+refused-some : (r : Refusal) → 0 < number_of r
+refused-some Shift = omega arith
+refused-some NoPixels = omega arith
+refused-some TooManyPixels = omega arith
+refused-some ImageLength = omega arith
+refused-some BufferLength = omega arith
+refused-some PictureLength = omega arith
+refused-some SumTooLarge = omega arith
+refused-some NoSlot = omega arith
+refused-some NoAverage = omega arith
+refused-some BadList = omega arith
+refused-some NoRow = omega arith
+refused-some LargeNumber = omega arith
+refused-some DestinationLength = omega arith
+
+pub refused-number : (r : Refusal) → eqb (number_of r) 0 ≡ false
+refused-number r = ne_eqb (number_of r) 0 (λ e. let s = refused-some r in omega arith)
+
+-- an answer that is an error is not 0, and one that is none is 0
+pub error-number : {A : Type 0} (r : Result A Refusal) → is_err r ≡ true → eqb (answer_of r) 0 ≡ false
+error-number (Ok x) e = cc
+error-number (Err x) e = refused-number x
+
+pub accepted-number : {A : Type 0} (r : Result A Refusal) → is_err r ≡ false → answer_of r ≡ 0
+accepted-number (Ok x) e = refl
+accepted-number (Err x) e = cc
+
+-- what the first checks refuse is refused whatever the later ones are
+pub refused-first : (r : Refusal) (first later : List Check) → Numbered first → number_of r ≡ first_failed first → number_of r ≡ first_failed (first ++ later)
+refused-first r first later n e = rw (failed-later first later n, ← e, refused-number r)
 
 -- picture is a length
 pub row-accepted : (w h picture y : ℕ) → row_answer w h picture y ≡ 0 → (w * h ≤ limit) × (picture ≡ 4 * (w * h)) × (y < h)

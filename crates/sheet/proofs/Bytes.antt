@@ -1,20 +1,24 @@
 -- The numbers of a stored sheet and their bytes: where they lie, and whether one of them takes more than two bytes. Assumes nothing.
 use mathlib.Core.Path.{◌≡◌, refl, sym, ap, ◌∙◌}
-use mathlib.Core.Bool.{Bool, true, false, not, ◌&&◌, ◌||◌, and-true}
-use mathlib.Core.List.{List, [], ◌∷◌, ◌++◌, map, append-nil, flatten}
+use mathlib.Core.Bool.{Bool, true, false, not, ◌&&◌, ◌||◌, and-true, or-false, or_assoc}
+use mathlib.Core.List.{List, [], ◌∷◌, ◌++◌, append-nil, flatten}
 use Prim.Native.Nat.{ℕ, zero, suc, ◌+◌, ◌*◌, ◌≤◌, ◌<◌}
+use native.Mathlib.Decide.{ℕ_discrete}
 use native.Mathlib.Numerals.{add-one}
+use Rattle.std.proofs.Common.{add-zero}
 use native.Mathlib.Omega.{arith}
 use borrow.Author.Tests.{leb-true, leb-false, lt-ltb, le-ltb, ltb-false}
 use lib.Dec.{leb, ltb}
 use lib.ListN.{length, get_or, set, take, length-append, length-take, drop_of_length-le}
-use lib.Seq.{sets, sets-eq, append_snoc, take-suc, get_or-take}
+use lib.Seq.{sets, sets-eq, append_snoc, take-suc}
+use Rattle.std.specs.List.{fold, list_any, range_with_len}
+use Rattle.sheet.specs.Code.Pairs.{pairs}
 use Rattle.rules.specs.Base.{up_to, none_above}
 use Rattle.rules.specs.Layout.{first_pixel_place, pixel_count_place}
 use Rattle.rules.specs.Paint.{slot_number}
 use Rattle.rules.specs.Stored.{is_large, two_bytes, stored_bytes, pixel_numbers, slot_numbers, stored_numbers}
 use Rattle.rules.proofs.Accepted.{neither}
-use Rattle.rules.proofs.Layouts.{flatten-snoc, spread, spread_at}
+use Rattle.rules.proofs.Layouts.{flatten-snoc, spread}
 
 -- ---- bytes
 
@@ -59,43 +63,61 @@ large-one : (x : ℕ) → is_large (x ∷ []) ≡ ltb 65535 x
 unfolding is_large
 large-one x = ap not (and-true (leb x 65535)) ∙ not-leb x 65535
 
-large-more : (xs : List ℕ) (x : ℕ) → is_large (xs ++ (x ∷ [])) ≡ is_large xs || ltb 65535 x
-large-more xs x = large-append xs (x ∷ []) ∙ ap (λ b. is_large xs || b) (large-one x)
-
 -- each of the numbers is small
-small_at : (xs : List ℕ) → is_large xs ≡ false → (i : ℕ) → i < length xs → get_or xs i 0 ≤ 65535
+pub small_at : (xs : List ℕ) → is_large xs ≡ false → (i : ℕ) → i < length xs → get_or xs i 0 ≤ 65535
 small_at [] e i l = absurd (omega arith)
 small_at (x ∷ xs) e zero l = ltb-false 65535 x (sym (large-one x) ∙ (neither _ (is_large xs) (sym (large-append (x ∷ []) xs) ∙ e)).0)
 small_at (x ∷ xs) e (suc i) l = small_at xs (neither (is_large (x ∷ [])) _ (sym (large-append (x ∷ []) xs) ∙ e)).1 i (omega arith)
 
+-- whether a number of xs is large, as a fold finds it
+pub fold-large : (b : Bool) (xs : List ℕ) → fold (λ c x. c || ltb 65535 x) b xs ≡ b || is_large xs
+unfolding is_large
+fold-large b [] = sym (or-false b)
+fold-large b (x ∷ xs) = fold-large (b || ltb 65535 x) xs ∙ or_assoc b (ltb 65535 x) (is_large xs) ∙ ap (λ c. b || c) (ap (λ c. c || is_large xs) (sym (large-one x)) ∙ sym (large-append (x ∷ []) xs))
+
 -- ---- two numbers for each of 0 .. n - 1, as of pixels and of slots
 
-module _ (f g : ℕ → ℕ) where
-  abbrev pairs : ℕ → List ℕ
-  pairs n = flatten (map (λ i. f i ∷ g i ∷ []) (up_to n))
+any-more : (p : ℕ → Bool) (a n : ℕ) → list_any p (range_with_len a (suc n)) ≡ list_any p (range_with_len a n) || p (a + n)
+any-more p a zero = rw (add-zero) (or-false (p a))
+any-more p a (suc n) = ap (λ b. p a || b) (any-more p (a + 1) n) ∙ sym (or_assoc (p a) _ _) ∙ ap (λ m. p a || list_any p (range_with_len (a + 1) n) || p m) (omega arith)
 
-  pairs-length : (n : ℕ) → length (pairs n) ≡ 2 * n
+module _ (f g : ℕ → ℕ) where
+  pairs-length : (n : ℕ) → length (pairs f g n) ≡ 2 * n
   pairs-length = spread _ 2 (λ i. refl)
 
-  pairs-more : (n : ℕ) → pairs (n + 1) ≡ pairs n ++ (f n ∷ []) ++ (g n ∷ [])
-  pairs-more n = rw (add-one n) (flatten-snoc _ n ∙ sym (append_snoc (pairs n) (f n) _))
+  pairs-more : (n : ℕ) → pairs f g (suc n) ≡ pairs f g n ++ (f n ∷ g n ∷ [])
+  pairs-more n = flatten-snoc _ n
 
-  pub pairs-large : (n : ℕ) → is_large (pairs (n + 1)) ≡ is_large (pairs n) || ltb 65535 (f n) || ltb 65535 (g n)
-  pairs-large n = ap is_large (pairs-more n) ∙ large-more _ (g n) ∙ ap (λ b. b || ltb 65535 (g n)) (large-more _ (f n))
+  pairs-large : (n : ℕ) → is_large (pairs f g (suc n)) ≡ is_large (pairs f g n) || is_large (f n ∷ g n ∷ [])
+  pairs-large n = ap is_large (pairs-more n) ∙ large-append _ _
 
-  pub pairs_small : (n : ℕ) → is_large (pairs n) ≡ false → (i : ℕ) → i < n → (f i ≤ 65535) × (g i ≤ 65535)
-  pairs_small n e i l = (
-    rw (spread_at _ 2 (λ j. refl) n i 0 l (omega arith)) at (small_at (pairs n) e (2 * i + 0) (omega (arith, pairs-length n))),
-    rw (spread_at _ 2 (λ j. refl) n i 1 l (omega arith)) at (small_at (pairs n) e (2 * i + 1) (omega (arith, pairs-length n))),
-  )
+  large-two : (i : ℕ) → is_large (f i ∷ g i ∷ []) ≡ ltb 65535 (f i) || ltb 65535 (g i)
+  large-two i = large-append (f i ∷ []) (g i ∷ []) ∙ ap (λ b. b || is_large (g i ∷ [])) (large-one (f i)) ∙ ap (λ b. ltb 65535 (f i) || b) (large-one (g i))
+
+  -- a pair has a large number, as `any` finds it
+  pub any-pair : (n : ℕ) → list_any (λ i. ltb 65535 (f i) || ltb 65535 (g i)) (range_with_len 0 n) ≡ is_large (pairs f g n)
+  unfolding is_large flatten up_to
+  any-pair zero = refl
+  any-pair (suc n) = any-more test 0 n ∙ ap (λ m. list_any test (range_with_len 0 n) || test m) (omega arith) ∙ ap (λ b. b || test n) (any-pair n) ∙ ap (λ b. is_large (pairs f g n) || b) (sym (large-two n)) ∙ sym (pairs-large n)
+    where
+      test : ℕ → Bool
+      test i = ltb 65535 (f i) || ltb 65535 (g i)
+
+  -- and each pair of small ones is small
+  pub pair-small : (n : ℕ) → is_large (pairs f g n) ≡ false → (i : ℕ) → i < n → (f i ≤ 65535) × (g i ≤ 65535)
+  pair-small (suc n) e i l =
+      let d = neither (is_large (pairs f g n)) (is_large (f n ∷ g n ∷ [])) (sym (pairs-large n) ∙ e) in
+      elim (ℕ_discrete i n) [ yes z ↦ rw z (small_at (f n ∷ g n ∷ []) d.1 0 (omega arith), small_at (f n ∷ g n ∷ []) d.1 1 (omega arith)) | no z ↦ pair-small n d.0 i (omega arith) ]
+  pair-small zero e i l = absurd (omega arith)
 
   -- one turn of a loop that writes them
-  pub pairs-put : (d₀ d d₁ d₂ : List ℕ) (from n : ℕ) → d ≡ sets d₀ from (stored_bytes (pairs n)) → d₁ ≡ sets d (from + 4 * n) (two_bytes (f n)) → d₂ ≡ sets d₁ (from + 4 * n + 2) (two_bytes (g n)) → d₂ ≡ sets d₀ from (stored_bytes (pairs (n + 1)))
+  pub pairs-put : (d₀ d d₁ d₂ : List ℕ) (from n x y : ℕ) → x ≡ f n → y ≡ g n → d ≡ sets d₀ from (stored_bytes (pairs f g n))
+      → d₁ ≡ sets d (from + 4 * n) (two_bytes x) → d₂ ≡ sets d₁ (from + 4 * n + 2) (two_bytes y) → d₂ ≡ sets d₀ from (stored_bytes (pairs f g (n + 1)))
   unfolding stored_bytes
-  pairs-put d₀ d d₁ d₂ from n e e₁ e₂ =
-      let h : d₁ ≡ sets d₀ from (stored_bytes (pairs n ++ (f n ∷ []))) = e₁ ∙ bytes-more d₀ d (pairs n) (f n ∷ []) from (from + 4 * n) e (omega (arith, pairs-length n)) in
-      e₂ ∙ bytes-more d₀ d₁ (pairs n ++ (f n ∷ [])) (g n ∷ []) from (from + 4 * n + 2) h (omega (arith, pairs-length n, length-append (pairs n) (f n ∷ [])))
-      ∙ ap (λ r. sets d₀ from (stored_bytes r)) (sym (pairs-more n))
+  pairs-put d₀ d d₁ d₂ from n x y a b e e₁ e₂ =
+      let h : d₁ ≡ sets d₀ from (stored_bytes (pairs f g n ++ (f n ∷ []))) = e₁ ∙ rw a (bytes-more d₀ d (pairs f g n) (f n ∷ []) from (from + 4 * n) e (omega (arith, pairs-length n))) in
+      e₂ ∙ rw b (bytes-more d₀ d₁ (pairs f g n ++ (f n ∷ [])) (g n ∷ []) from (from + 4 * n + 2) h (omega (arith, pairs-length n, length-append (pairs f g n) (f n ∷ []))))
+      ∙ ap (λ r. sets d₀ from (stored_bytes r)) (append_snoc (pairs f g n) (f n) (g n ∷ []) ∙ sym (pairs-more n) ∙ ap (pairs f g) (sym (add-one n)))
 
 -- ---- the first entries of a list
 
@@ -103,22 +125,33 @@ module _ (xs : List ℕ) (i : ℕ) (l : i < length xs) where
   take_more : take (i + 1) xs ≡ take i xs ++ (get_or xs i 0 ∷ [])
   take_more = rw (add-one i) (take-suc xs i 0 l)
 
-  pub take-large : is_large (take (i + 1) xs) ≡ is_large (take i xs) || ltb 65535 (get_or xs i 0)
-  take-large = ap is_large take_more ∙ large-more _ (get_or xs i 0)
-
-  pub take-small : (m : ℕ) → is_large (take m xs) ≡ false → i < m → get_or xs i 0 ≤ 65535
-  take-small m e b = rw (get_or-take m xs i 0 b) at (small_at (take m xs) e i (omega (arith, length-take m xs)))
-
   -- one turn of a loop that writes them
   pub take_put : (d₀ d : List ℕ) (from : ℕ) → d ≡ sets d₀ from (stored_bytes (take i xs)) → sets d (from + 2 * i) (two_bytes (get_or xs i 0)) ≡ sets d₀ from (stored_bytes (take (i + 1) xs))
   unfolding stored_bytes
   take_put d₀ d from e = bytes-more d₀ d (take i xs) _ from (from + 2 * i) e (omega (arith, length-take i xs)) ∙ ap (λ r. sets d₀ from (stored_bytes r)) (sym take_more)
 
+-- the numbers of pixels are those of two lists
+pub two-lists : (xs ys : List ℕ) (n : ℕ) → n ≤ length xs → n ≤ length ys
+    → is_large (take n xs) || is_large (take n ys) ≡ is_large (pairs (λ i. get_or xs i 0) (λ i. get_or ys i 0) n)
+unfolding is_large flatten up_to
+two-lists xs ys zero h l = refl
+two-lists xs ys (suc n) h l =
+    let k : n < length xs = omega arith in
+    let m : n < length ys = omega arith in
+    rw (take-suc xs n 0 k, take-suc ys n 0 m, large-append (take n xs) _, large-append (take n ys) _, pairs-large (λ i. get_or xs i 0) (λ i. get_or ys i 0) n, ← two-lists xs ys n (omega arith) (omega arith), large-append (get_or xs n 0 ∷ []) (get_or ys n 0 ∷ []))
+    (swap (is_large (take n xs)) _ (is_large (take n ys)) _)
+  where
+    swap : (a b c d : Bool) → (a || b) || (c || d) ≡ (a || c) || (b || d)
+    swap true b c d = refl
+    swap false true true d = refl
+    swap false true false d = refl
+    swap false false c d = refl
+
 -- ---- a whole sheet
 
 -- each of its parts is small
 pub record Small (w h : ℕ) (labels links table to : List ℕ) (n m : ℕ) : Type 0 where
-  pub sizes : (w ≤ 65535) × (h ≤ 65535) × (n ≤ 65535) × (m ≤ 65535)
+  pub sizes : is_large (w ∷ h ∷ n ∷ m ∷ []) ≡ false
   pub pixels : is_large (pixel_numbers labels links (w * h)) ≡ false
   pub slots : is_large (slot_numbers table n) ≡ false
   pub outputs : is_large (take m to) ≡ false
@@ -136,12 +169,9 @@ module _ (w h : ℕ) (labels links table outputs : List ℕ) (n m : ℕ) where
   abbrev numbers : List ℕ
   numbers = stored_numbers w h labels links table outputs n m
 
-  pub stored-large : is_large numbers ≡ ltb 65535 w || ltb 65535 h || ltb 65535 n || ltb 65535 m || is_large pixels || is_large slots || is_large (take m outputs)
+  pub stored-large : is_large numbers ≡ is_large sizes || is_large pixels || is_large slots || is_large (take m outputs)
   unfolding stored_numbers
-  stored-large =
-      let four : is_large sizes ≡ ltb 65535 w || ltb 65535 h || ltb 65535 n || ltb 65535 m =
-      large-more (w ∷ h ∷ n ∷ []) m ∙ ap (λ b. b || ltb 65535 m) (large-more (w ∷ h ∷ []) n ∙ ap (λ b. b || ltb 65535 n) (large-more (w ∷ []) h ∙ ap (λ b. b || ltb 65535 h) (large-one w))) in
-      rw (large-append _ (take m outputs), large-append _ slots, large-append sizes pixels, four)
+  stored-large = rw (large-append _ (take m outputs), large-append _ slots, large-append sizes pixels)
 
   -- none of the numbers is large
   pub stored-small : is_large numbers ≡ false → Small w h labels links table outputs n m
@@ -150,8 +180,7 @@ module _ (w h : ℕ) (labels links table outputs : List ℕ) (n m : ℕ) where
       let o = neither _ (is_large (take m outputs)) (sym (large-append (sizes ++ pixels ++ slots) (take m outputs)) ∙ e) in
       let s = neither _ (is_large slots) (sym (large-append (sizes ++ pixels) slots) ∙ o.0) in
       let p = neither (is_large sizes) (is_large pixels) (sym (large-append sizes pixels) ∙ s.0) in
-      let at = small_at sizes p.0 in
-      record { sizes = (at 0 (omega arith), at 1 (omega arith), at 2 (omega arith), at 3 (omega arith)); pixels = p.1; slots = s.1; outputs = o.1 }
+      record { sizes = p.0; pixels = p.1; slots = s.1; outputs = o.1 }
 
   -- where the slots, and the outputs, begin
   to_slots : length (sizes ++ pixels) ≡ 4 + 2 * (w * h)

@@ -1,263 +1,186 @@
 // The stored sheet: its checks, and its bytes.
-ghost use Rattle.std.specs.Prelude.{◌≡◌, false, ◌||◌, [], ◌∷◌, ◌++◌, ◌+◌, ◌*◌, ◌≤◌, ltb, length, take};
+ghost use Rattle.std.specs.Prelude.{◌≡◌, false, ◌||◌, [], ◌∷◌, ◌++◌, ℕ, ◌+◌, ◌*◌, ◌≤◌, ◌<◌, ltb, length, IfOk};
 ghost use Rattle.std.proofs.lemmas.List.Edits.{sets};
 ghost use Rattle.rules.specs.Refusals.{first_failed, refusal, size_checks, short_sheet, bad_counts, store_answer};
-ghost use Rattle.rules.specs.Stored.{stored_numbers, stored_bytes, is_large, two_bytes, pixel_numbers, slot_numbers};
-ghost use Rattle.rules.specs.Layout.{slot_width};
+ghost use Rattle.rules.specs.Stored.{stored_numbers, stored_bytes, is_large, two_bytes, slot_numbers};
+ghost use Rattle.rules.specs.Layout.{slot_width, InTable};
+ghost use Rattle.rules.specs.Paint.{slot_number};
+ghost use Rattle.refusal.specs.Refusal.{answer_of};
 ghost use Rattle.sheet.specs.Code.Lengths.{CanStore};
+ghost use Rattle.sheet.specs.Code.Pairs.{pairs};
 
-use image::layout;
+use image::{Clusters, layout};
+use refusal::Refusal;
 
 // The largest number of two bytes.
 const LARGEST: u32 = 65535;
 
-// Whether one of the first size labels and links takes more than two bytes.
-fn large_pixels(labels: &[u32], links: &[u32], size: usize) -> bool
-    requires { (size ≤ length labels.now) × (size ≤ length links.now) }
-    ensures { result ≡ is_large (pixel_numbers labels.now links.now size) }
+// Whether one of the numbers takes more than two bytes. All are looked at: the compiler then compares several at a time.
+fn has_large(numbers: &[u32]) -> bool
+    ensures { result ≡ is_large numbers.now }
 {
-    let mut large = false;
-    let mut p = 0;
-    while p < size {
-        large = large | (LARGEST < labels[p]) | (LARGEST < links[p]);
-        p += 1;
-    }
-    large
+    numbers
+        .iter()
+        .fold(false, |large, number| large | (LARGEST < *number))
+}
+
+// The number at a place of slot k.
+fn slot_number(table: &[u32], k: usize, place: usize) -> u32
+    requires slot { InTable k table.now }
+    requires place { place < slot_width }
+    ensures { result ≡ slot_number table.now k place }
+{
+    table[layout::SLOT_WIDTH * k + place]
 }
 
 // Whether a first pixel or a count of the first n slots takes more than two bytes.
-fn large_slots(table: &[u32], n: usize) -> bool
+fn has_large_slot(table: &[u32], n: usize) -> bool
     requires { slot_width * n ≤ length table.now }
     ensures { result ≡ is_large (slot_numbers table.now n) }
 {
-    let mut large = false;
-    let mut k = 0;
-    while k < n {
-        large = large
-            | (LARGEST < table[layout::SLOT_WIDTH * k + layout::FIRST_PIXEL])
-            | (LARGEST < table[layout::SLOT_WIDTH * k + layout::PIXEL_COUNT]);
-        k += 1;
-    }
-    large
-}
-
-// Whether one of the first m outputs takes more than two bytes.
-fn large_outputs(outputs: &[u32], m: usize) -> bool
-    requires { m ≤ length outputs.now }
-    ensures { result ≡ is_large (take m outputs.now) }
-{
-    let mut large = false;
-    let mut i = 0;
-    while i < m {
-        large = large | (LARGEST < outputs[i]);
-        i += 1;
-    }
-    large
+    (0..n).any(|k| {
+        (LARGEST < slot_number(table, k, layout::FIRST_PIXEL))
+            | (LARGEST < slot_number(table, k, layout::PIXEL_COUNT))
+    })
 }
 
 // Writes x in two bytes, low byte first.
 fn put(destination: &mut [u8], at: usize, x: u32)
-    requires { (at + 2 ≤ length destination.old) × (x ≤ 65535) }
+    requires room { at + 2 ≤ length destination.old }
+    requires small { x ≤ 65535 }
     ensures { destination.new ≡ sets destination.old at (two_bytes x) }
 {
-    destination[at] = (x % 256) as u8;
-    destination[at + 1] = (x / 256) as u8;
+    destination[at..at + 2].copy_from_slice(&(x as u16).to_le_bytes());
 }
 
-// Writes label and link of each of the first size pixels.
-fn put_pixels(destination: &mut [u8], labels: &[u32], links: &[u32], size: usize)
-    requires { (size ≤ length labels.now) × (size ≤ length links.now) × (8 + 4 * size ≤ length destination.old)
-        × (is_large (pixel_numbers labels.now links.now size) ≡ false) }
-    ensures { destination.new
-        ≡ sets destination.old 8 (stored_bytes (pixel_numbers labels.now links.now size)) }
+// Writes the numbers one after another, from a place on.
+fn put_all(destination: &mut [u8], from: usize, numbers: &[u32])
+    requires room { from + 2 * length numbers.now ≤ length destination.old }
+    requires small { is_large numbers.now ≡ false }
+    ensures { destination.new ≡ sets destination.old from (stored_bytes numbers.now) }
 {
-    let mut p = 0;
-    while p < size {
-        let at = 8 + 4 * p;
-        put(destination, at, labels[p]);
-        put(destination, at + 2, links[p]);
-        p += 1;
+    for (i, number) in numbers.iter().enumerate() {
+        put(destination, from + 2 * i, *number);
     }
 }
 
-// Writes first pixel and count of each of the first n slots from a place on.
-fn put_slots(destination: &mut [u8], from: usize, table: &[u32], n: usize)
-    requires { (slot_width * n ≤ length table.now) × (from + 4 * n ≤ length destination.old)
-        × (is_large (slot_numbers table.now n) ≡ false) }
-    ensures { destination.new
-        ≡ sets destination.old from (stored_bytes (slot_numbers table.now n)) }
+// Writes two numbers for each of 0 .. count - 1 one after another, from a place on.
+fn put_pairs<F: Fn(usize) -> u32, G: Fn(usize) -> u32>(
+    destination: &mut [u8],
+    from: usize,
+    count: usize,
+    first: F,
+    second: G,
+)
+    requires room { from + 4 * count ≤ length destination.old }
+    requires first { (i : ℕ) → i < count → F.pre first i × ((x : ℕ) → F.post first i x → x ≤ 65535) }
+    requires second { (i : ℕ) → i < count → G.pre second i × ((x : ℕ) → G.post second i x → x ≤ 65535) }
+    ensures { (f g : ℕ → ℕ)
+        → ((i x : ℕ) → i < count → F.post first i x → x ≡ f i)
+        → ((i x : ℕ) → i < count → G.post second i x → x ≡ g i)
+        → destination.new ≡ sets destination.old from (stored_bytes (pairs f g count)) }
 {
-    let mut k = 0;
-    while k < n {
-        let at = from + 4 * k;
-        put(
-            destination,
-            at,
-            table[layout::SLOT_WIDTH * k + layout::FIRST_PIXEL],
-        );
-        put(
-            destination,
-            at + 2,
-            table[layout::SLOT_WIDTH * k + layout::PIXEL_COUNT],
-        );
-        k += 1;
+    for i in 0..count {
+        let at = from + 4 * i;
+        put(destination, at, first(i));
+        put(destination, at + 2, second(i));
     }
-}
-
-// Writes the first m outputs from a place on.
-fn put_outputs(destination: &mut [u8], from: usize, outputs: &[u32], m: usize)
-    requires { (m ≤ length outputs.now) × (from + 2 * m ≤ length destination.old)
-        × (is_large (take m outputs.now) ≡ false) }
-    ensures { destination.new
-        ≡ sets destination.old from (stored_bytes (take m outputs.now)) }
-{
-    let mut i = 0;
-    while i < m {
-        put(destination, from + 2 * i, outputs[i]);
-        i += 1;
-    }
-}
-
-// Writes w, h, n and m.
-fn put_sizes(destination: &mut [u8], w: u32, h: u32, n: u32, m: u32)
-    requires { (8 ≤ length destination.old) × (w ≤ 65535) × (h ≤ 65535) × (n ≤ 65535) × (m ≤ 65535) }
-    ensures { destination.new ≡ sets destination.old 0 (stored_bytes (w ∷ h ∷ n ∷ m ∷ [])) }
-{
-    put(destination, 0, w);
-    put(destination, 2, h);
-    put(destination, 4, n);
-    put(destination, 6, m);
 }
 
 // Whether a number to be stored takes more than two bytes.
-fn large(
-    w: u32,
-    h: u32,
-    labels: &[u32],
-    links: &[u32],
-    table: &[u32],
-    outputs: &[u32],
-    n: u32,
-    m: u32,
-) -> bool
-    requires { CanStore (w * h) n m (length labels.now) (length links.now) (length table.now)
-        (length outputs.now) }
-    ensures { result
-        ≡ is_large (stored_numbers w h
-        labels.now links.now table.now outputs.now n m) }
+fn is_too_large(clusters: Clusters, labels: &[u32], pixels: usize) -> bool
+    requires can_store { let s = clusters in
+        CanStore pixels s.counts.n s.counts.m (length labels.now) (length s.links.now) (length s.table.now)
+        (length s.outputs.now) }
+    requires pixels { pixels ≡ clusters.size.w * clusters.size.h }
+    ensures { let s = clusters.entry in result ≡ is_large (stored_numbers s.size.w s.size.h labels.now
+        s.links.now s.table.now s.outputs.now s.counts.n s.counts.m) }
 {
-    (LARGEST < w)
-        | (LARGEST < h)
-        | (LARGEST < n)
-        | (LARGEST < m)
-        | large_pixels(labels, links, (w * h) as usize)
-        | large_slots(table, n as usize)
-        | large_outputs(outputs, m as usize)
+    let Clusters {
+        size,
+        counts,
+        links,
+        table,
+        outputs,
+    } = clusters;
+    has_large(&[size.w, size.h, counts.n, counts.m])
+        | has_large(&labels[..pixels])
+        | has_large(&links[..pixels])
+        | has_large_slot(table, counts.n as usize)
+        | has_large(&outputs[..counts.m as usize])
 }
 
-// Checks 2, 3 and 5 of storing; labels, links, table and outputs are lengths.
-fn buffers_answer(
-    w: u32,
-    h: u32,
-    labels: usize,
-    links: usize,
-    table: usize,
-    outputs: usize,
-    n: u32,
-    m: u32,
-) -> u32
-    ensures { result
+// The number of pixels, where checks 2, 3 and 5 of storing pass; labels is a length.
+fn checked_pixels(clusters: Clusters, labels: usize) -> Result<u32, Refusal>
+    ensures answer { let s = clusters.entry in
+        answer_of result
         ≡ first_failed
-        (size_checks w h
+        (size_checks s.size.w s.size.h
         ++ (refusal 5
-        (ltb labels (w * h) || short_sheet (w * h) links table outputs || bad_counts (w * h) n m) ∷ [])) }
+        (ltb labels (s.size.w * s.size.h)
+        || short_sheet (s.size.w * s.size.h) (length s.links.now) (length s.table.now) (length s.outputs.now)
+        || bad_counts (s.size.w * s.size.h) s.counts.n s.counts.m) ∷ [])) }
+    ensures pixels { IfOk result (λ pixels. pixels ≡ clusters.entry.size.w * clusters.entry.size.h) }
 {
-    let answer = image::size_answer(w, h);
-    if answer != 0 {
-        return answer;
+    let pixels = clusters.pixels()?;
+    if labels < pixels as usize {
+        return Err(Refusal::BufferLength);
     }
-    let size = image::area(w, h) as u32;
-    if (labels < size as usize)
-        | layout::short(size, links, table, outputs)
-        | layout::bad_counts(size, n, m)
-    {
-        return 5;
-    }
-    0
+    Ok(pixels)
 }
 
 // The checks of storing; destination is a length.
-pub(crate) fn answer(
-    w: u32,
-    h: u32,
-    labels: &[u32],
-    links: &[u32],
-    table: &[u32],
-    outputs: &[u32],
-    destination: usize,
-    n: u32,
-    m: u32,
-) -> u32
-    ensures { result
-        ≡ store_answer w h (length labels.now) (length links.now) (length table.now)
-        (length outputs.now) destination n m
-        (is_large (stored_numbers w h
-        labels.now links.now table.now outputs.now n m))
-        (2 * length (stored_numbers w h
-        labels.now links.now table.now outputs.now n m)) }
+pub(crate) fn check(clusters: Clusters, labels: &[u32], destination: usize) -> Result<(), Refusal>
+    ensures { let s = clusters.entry in
+        let numbers = stored_numbers s.size.w s.size.h labels.now s.links.now s.table.now s.outputs.now
+        s.counts.n s.counts.m in
+        answer_of result
+        ≡ store_answer s.size.w s.size.h (length labels.now) (length s.links.now) (length s.table.now)
+        (length s.outputs.now) destination s.counts.n s.counts.m (is_large numbers) (2 * length numbers) }
 {
-    let early = buffers_answer(
-        w,
-        h,
-        labels.len(),
-        links.len(),
-        table.len(),
-        outputs.len(),
-        n,
-        m,
-    );
-    if early != 0 {
-        return early;
+    let pixels = checked_pixels(clusters, labels.len())? as usize;
+    if is_too_large(clusters, labels, pixels) {
+        return Err(Refusal::LargeNumber);
     }
-    if large(w, h, labels, links, table, outputs, n, m) {
-        return 12;
+    let counts = clusters.counts;
+    if destination != 8 + 4 * pixels + 4 * counts.n as usize + 2 * counts.m as usize {
+        return Err(Refusal::DestinationLength);
     }
-    if destination != 8 + 4 * (w * h) as usize + 4 * n as usize + 2 * m as usize {
-        return 13;
-    }
-    0
+    Ok(())
 }
 
 // Writes the sheet.
-pub(crate) fn write(
-    w: u32,
-    h: u32,
-    labels: &[u32],
-    links: &[u32],
-    table: &[u32],
-    outputs: &[u32],
-    destination: &mut [u8],
-    n: u32,
-    m: u32,
-)
-    requires can_store { CanStore (w * h) n m (length labels.now) (length links.now) (length table.now)
-        (length outputs.now) }
-    requires small { is_large (stored_numbers w h labels.now links.now table.now outputs.now n m) ≡ false }
-    requires exact { length destination.old
-        ≡ 2 * length (stored_numbers w h labels.now links.now table.now outputs.now n m) }
-    ensures { destination.new
-        ≡ stored_bytes
-        (stored_numbers w h labels.now links.now table.now outputs.now n
-        m) }
+pub(crate) fn write(clusters: Clusters, labels: &[u32], destination: &mut [u8])
+    requires can_store { let s = clusters in
+        CanStore (s.size.w * s.size.h) s.counts.n s.counts.m (length labels.now) (length s.links.now)
+        (length s.table.now) (length s.outputs.now) }
+    requires small { let s = clusters in is_large (stored_numbers s.size.w s.size.h labels.now s.links.now
+        s.table.now s.outputs.now s.counts.n s.counts.m) ≡ false }
+    requires exact { let s = clusters in
+        length destination.old ≡ 2 * length (stored_numbers s.size.w s.size.h labels.now
+        s.links.now s.table.now s.outputs.now s.counts.n s.counts.m) }
+    ensures { let s = clusters.entry in
+        destination.new ≡ stored_bytes (stored_numbers s.size.w s.size.h labels.now
+        s.links.now s.table.now s.outputs.now s.counts.n s.counts.m) }
 {
-    let size = (w * h) as usize;
-    put_sizes(destination, w, h, n, m);
-    put_pixels(destination, labels, links, size);
-    put_slots(destination, 8 + 4 * size, table, n as usize);
-    put_outputs(
-        destination,
-        8 + 4 * size + 4 * n as usize,
+    let Clusters {
+        size,
+        counts,
+        links,
+        table,
         outputs,
-        m as usize,
+    } = clusters;
+    let pixels = (size.w * size.h) as usize;
+    let n = counts.n as usize;
+    let to_slots = 8 + 4 * pixels;
+    put_all(destination, 0, &[size.w, size.h, counts.n, counts.m]);
+    put_pairs(destination, 8, pixels, |p| labels[p], |p| links[p]);
+    put_pairs(
+        destination,
+        to_slots,
+        n,
+        |k| slot_number(table, k, layout::FIRST_PIXEL),
+        |k| slot_number(table, k, layout::PIXEL_COUNT),
     );
+    put_all(destination, to_slots + 4 * n, &outputs[..counts.m as usize]);
 }

@@ -1,31 +1,53 @@
-use mathlib.Core.Path.{◌≡◌, sym, ap₂, ◌∙◌}
-use borrow.Author.Tests.{ne_eqb}
-use lib.ListN.{length}
-use Rattle.rules.specs.Refusals.{run_and_paint_answer}
-use Rattle.rules.specs.Calls.{Buffers, run_and_paint_number, run_and_paint_call}
+use Rattle.std.proofs.Common.{◌≡◌, refl, ap₂, rules, eq-eqb, Err, Ok, Result, IfOk}
+use Rattle.std.proofs.Common.{ne_eqb}
+use Rattle.image.specs.declared.Counts.{Counts}
+use Rattle.refusal.specs.declared.Refusal.{Refusal}
+use Rattle.refusal.proofs.Laws.{refusal-number}
+use Rattle.rules.specs.Calls.{Buffers, Ran, answered, with_picture, run_number, run_and_paint_number, run_and_paint_call}
+use Rattle.rules.specs.Demand3.{Demand3Left}
+use Rattle.rules.proofs.Accepted.{run-and-paint-number}
 use Rattle.rules.proofs.Left.{run-and-paint-left}
-use Rattle.runner.specs.Types.{config_of}
+use Rattle.runner.specs.Types.{config_of, buffers_of, ran_of}
 use Rattle.color_clusters.proofs.run_and_paint.Goals as goal
-use Rattle.color_clusters.proofs.run_and_paint.Goals.{Else-refusal-ne0}
+use Rattle.color_clusters.proofs.run_and_paint.Goals.{Else-picture-pixels, After-run_then_paint}
 
--- the checks are passed
-passed : (c : Else-refusal-ne0)
-    → (let a = c.args in run_and_paint_answer a.w a.h (config_of a.o) (length a.image.now) (length a.labels.now) (length a.links.now) (length a.table.now) (length a.outputs.now) (length a.work.now) (length a.picture.now) ≡ 0)
-passed c = sym c.run_and_paint_answer-refusal.ensures ∙ c.if-refusal-ne0.false
+-- all checks are passed
+passed : (c : Else-picture-pixels) → run_and_paint_number (config_of c.args.o) c.args.size.w c.args.size.h c.args.image.now (buffers_of c.args.buffers.now) c.args.picture.now ≡ 0
+unfolding run_number run_and_paint_number
+passed c = rw (run-and-paint-number, ← c.in_ok-pixels.ensures.answer, ← c.in_ok-pixels.ensures.pixels, eq-eqb _ _ c.if-picture-pixels.false) refl
 
-pub returns-then-refusal-ne0 : goal.returns-then-refusal-ne0
-unfolding run_and_paint_call run_and_paint_number
-returns-then-refusal-ne0 c =
+-- what is left
+called : (c : After-run_then_paint) → run_and_paint_number (config_of c.args.o) c.args.size.w c.args.size.h c.args.image.now (buffers_of c.args.buffers.now) c.args.picture.now ≡ 0
+    → with_picture (ran_of c.run_then_paint.result (buffers_of c.run_then_paint.new.buffers)) c.run_then_paint.new.picture ≡ run_and_paint_call (config_of c.args.o) c.args.size.w c.args.size.h c.args.image.now (buffers_of c.args.buffers.now) c.args.picture.now
+unfolding run_and_paint_call
+called c e = rw e (ap₂ with_picture c.run_then_paint.ensures.run c.run_then_paint.ensures.picture)
+
+-- demand 3 of what an accepted call leaves
+if-ok : (D : Ran → Type 0) (r : Result Counts Refusal) (b : Buffers) → ((ran_of r b).number ≡ 0 → D (ran_of r b)) → IfOk r (λ counts. D (answered 0 counts.n counts.m b))
+if-ok D (Ok counts) b h = h refl
+if-ok D (Err e) b h = tt
+
+pub returns-in_err-pixels-clause-call : goal.returns-in_err-pixels-clause-call
+unfolding run_number run_and_paint_number run_and_paint_call
+returns-in_err-pixels-clause-call c =
+    let f : c.from_residual.result ≡ Err c.in_err-pixels.field-0.0 = search rules in
+    let n = refusal-number c.in_err-pixels.field-0.0 in
+    rw (f, run-and-paint-number, ← c.in_err-pixels.ensures.answer, n, n) refl
+
+pub returns-then-picture-pixels-clause-call : goal.returns-then-picture-pixels-clause-call
+unfolding run_number run_and_paint_number run_and_paint_call
+returns-then-picture-pixels-clause-call c = rw (run-and-paint-number, ← c.in_ok-pixels.ensures.answer, ← c.in_ok-pixels.ensures.pixels, ne_eqb _ _ c.if-picture-pixels.true) refl
+
+pub run_then_paint-requires : goal.run_then_paint-requires
+run_then_paint-requires c = passed (goal.at.run_then_paint-requires c).Else-picture-pixels
+
+pub returns-clause-call : goal.returns-clause-call
+returns-clause-call c = let p = goal.at.returns-clause-call c in called p.After-run_then_paint (passed p.Else-picture-pixels)
+
+pub returns-clause-demand3 : goal.returns-clause-demand3
+returns-clause-demand3 c =
+    let p = goal.at.returns-clause-demand3 c in
     let a = c.args in
-    let lent : Buffers = record { labels = a.labels.now; links = a.links.now; table = a.table.now; outputs = a.outputs.now; work = a.work.now } in
-    let r = run-and-paint-left (config_of a.o) a.w a.h a.image.now lent a.picture.now _ (rw (← c.run_and_paint_answer-refusal.ensures, ne_eqb _ 0 c.if-refusal-ne0.true)) in
-    record { call = r.0; demand3 = r.1 }
-
-pub returns : goal.returns
-unfolding run_and_paint_call run_and_paint_number
-returns c =
-    let a = c.args in
-    let e = c.run_then_paint.ensures in
-    let lent : Buffers = record { labels = a.labels.now; links = a.links.now; table = a.table.now; outputs = a.outputs.now; work = a.work.now } in
-    let r = run-and-paint-left (config_of a.o) a.w a.h a.image.now lent a.picture.now _ (rw (passed (goal.at.returns c).Else-refusal-ne0) (ap₂ (λ r p. record { ran = r; picture = p }) e.0 e.1)) in
-    record { call = r.0; demand3 = r.1 }
+    if-ok (λ r. Demand3Left (config_of a.o) a.size.w a.size.h a.image.now r.n r.buffers.labels r.buffers.links r.buffers.table c.run_then_paint.new.picture)
+    c.run_then_paint.result (buffers_of c.run_then_paint.new.buffers)
+    (run-and-paint-left _ _ _ _ _ _ _ (called p.After-run_then_paint (passed p.Else-picture-pixels))).1

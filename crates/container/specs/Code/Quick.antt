@@ -1,8 +1,8 @@
 -- What the quick checks of painting show.
-use Rattle.std.specs.Prelude.{List, ℕ, ◌+◌, ◌*◌, ◌≤◌, ◌<◌, T, length, get_or}
+use Rattle.std.specs.Prelude.{List, ℕ, ◌≤◌, ◌<◌, T, get_or}
 use Rattle.rules.specs.Color.{has_average}
 use Rattle.rules.specs.Paint.{reads, slot_number, slot_residue}
-use Rattle.rules.specs.Layout.{slot_width, first_pixel_place, pixel_count_place}
+use Rattle.rules.specs.Layout.{first_pixel_place, pixel_count_place}
 use Rattle.container.specs.declared.quick.Lane.{Lane}
 use Rattle.container.specs.declared.quick.Lanes.{Lanes}
 
@@ -20,22 +20,18 @@ ListPasses size links table k =
 abbrev pub PassFrom : ℕ → List ℕ → List ℕ → List ℕ → ℕ → ℕ → Type 0
 PassFrom size links table outputs m left = (i : ℕ) → left ≤ i → i < m → ListPasses size links table (get_or outputs i 0)
 
--- the first m entries lie in outputs, and their slots in the table
-pub record EntriesFit (table outputs : List ℕ) (m : ℕ) : Type 0 where
-  pub within : m ≤ length outputs
-  pub slots : (i : ℕ) → i < m → slot_width * get_or outputs i 0 + slot_width ≤ length table
-
--- The first `left` entries were not taken before. If the rest that lane y holds can be read, so can the l pixels from a
--- that it held, and the lists of the entries that were taken since.
-abbrev pub LanePasses : List ℕ → List ℕ → ℕ → ℕ → ℕ → Lane → Type 0
-LanePasses table outputs a l left y =
+-- If the rest that lane y holds can be read, so can that which lane x held before, and the lists of the entries that were
+-- taken since.
+abbrev pub LanePasses : List ℕ → List ℕ → Lane → Lane → Type 0
+LanePasses table outputs x y =
     (size : ℕ) (links : List ℕ) → T (reads size links y.at y.count)
-    → T (reads size links a l)
-    × ((m : ℕ) → PassFrom size links table outputs m left → PassFrom size links table outputs m y.left)
+    → T (reads size links x.at x.count)
+    × ((m : ℕ) → PassFrom size links table outputs m x.left → PassFrom size links table outputs m y.left)
+
+-- the rests of the four lanes can be read
+abbrev pub RestsPass : ℕ → List ℕ → Lanes → Type 0
+RestsPass size links x = (i : ℕ) → i < 4 → T (reads size links (get_or x.at i 0) (get_or x.count i 0))
 
 -- if the rests of the four lanes can be read, so can the lists of all entries that were taken: left, .. m - 1
 abbrev pub LanesPass : ℕ → List ℕ → List ℕ → List ℕ → ℕ → Lanes → Type 0
-LanesPass size links table outputs m x =
-    T (reads size links x.a0 x.l0) → T (reads size links x.a1 x.l1) → T (reads size links x.a2 x.l2)
-    → T (reads size links x.a3 x.l3)
-    → PassFrom size links table outputs m x.left
+LanesPass size links table outputs m x = RestsPass size links x → PassFrom size links table outputs m x.left

@@ -1,8 +1,8 @@
 -- The queue of pending slots: a tournament tree in a flat list. The keys of the n slots stand first, then `room` pairs
 -- of a key and a slot, one for each node. Leaf k is position n + k of the tree, the children of node j are positions 2j
 -- and 2j + 1, and the root is position 1.
-use Rattle.std.specs.Prelude.{◌≡◌, ◌⊎◌, ◌≢◌, Option, MatchOption, List, ℕ, zero, suc, ◌+◌, ◌*◌, ◌-◌, ◌%◌, ◌≤◌, ◌<◌, leb, ltb, eqb, length}
-use Rattle.std.specs.Prelude.{get_or, set, if◌then◌else◌}
+use Rattle.std.specs.Prelude.{◌≡◌, ◌⊎◌, ◌≢◌, Option, MatchOption, List, ℕ, zero, suc, ◌+◌, ◌*◌, ◌-◌, ◌%◌, ◌≤◌, ◌<◌, leb}
+use Rattle.std.specs.Prelude.{ltb, eqb, length, get_or, set, if◌then◌else◌}
 use Rattle.rules.specs.Code.Bounds.{count_bound}
 use Rattle.runner.specs.declared.queue.Entry.{Entry}
 
@@ -54,7 +54,7 @@ with_node queue room j e = set (set queue (room + 2 * j) e.key) (room + 2 * j + 
 unfoldable pub refreshed : List ℕ → ℕ → ℕ → ℕ → List ℕ
 refreshed queue n room j = with_node queue room j (first_below queue n room j)
 
--- node j is made from its children, and r is what it holds then; none, if it did before: it cannot change the nodes above
+-- node j is made from its children, and r is what it holds then; none, if it did before: it cannot change those above it
 pub record Refreshed (before after : List ℕ) (n room j : ℕ) (r : Option Entry) : Type 0 where
   pub made : after ≡ refreshed before n room j
   pub answer : MatchOption r (after ≡ before) (λ e. e ≡ first_below before n room j)
@@ -77,7 +77,8 @@ pub record First (queue : List ℕ) (n room : ℕ) (r : Entry) : Type 0 where
 
 -- r is the slot of the least key among those that are pending, with that key; none, if no slot is
 abbrev pub NextPending : List ℕ → ℕ → ℕ → Option Entry → Type 0
-NextPending queue n room r = MatchOption r ((j : ℕ) → j < n → get_or queue j 0 ≡ 4294967295) (λ e. First queue n room e × (e.key ≢ 4294967295))
+NextPending queue n room r = MatchOption r ((j : ℕ) → j < n → get_or queue j 0 ≡ 4294967295)
+    (λ e. First queue n room e × (e.key ≢ 4294967295))
 
 -- how the queue keeps a key of the rules: 0, of a slot that is not pending, as NONE
 abbrev pub queue_key : ℕ → ℕ

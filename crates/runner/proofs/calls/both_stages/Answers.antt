@@ -4,7 +4,7 @@ use Rattle.runner.proofs.calls.both_stages.Goals as goal
 
 pub drop_empty-m-requires : goal.drop_empty-m-requires
 drop_empty-m-requires c =
-    let p = c.args.input in
+    let p = c.args.input.now in
     let r = c.requires in
     let f = c.stage_2-t.ensures.staged _ c.label_image-n.ensures.entered in
     record {
@@ -13,6 +13,6 @@ drop_empty-m-requires c =
     }
 
 pub returns-clause-clustered : goal.returns-clause-clustered
-returns-clause-clustered c = let p = c.args.input in
+returns-clause-clustered c = let p = c.args.input.now in
     let r = c.requires in
     is-clustered (config_of p.o) p.w p.h p.image.now p.given.bytes _ r.can_run.table r.outputs (c.stage_2-t.ensures.staged _ c.label_image-n.ensures.entered) c.drop_empty-m.ensures

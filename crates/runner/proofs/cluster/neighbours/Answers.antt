@@ -84,7 +84,7 @@ module _ (labels links table marks : List ℕ) (w h k visit : ℕ) (small : w * 
   }
 
 -- the pixel of a turn
-here : (c : In-loop) → let a = c.args in Step (a.input.w * a.input.h) a.b.now.links.now c.loop.at (get_or a.b.now.table.now (slot_width * a.k + pixel_count_place) 0 - c.loop.counter)
+here : (c : In-loop) → let a = c.args in Step (a.input.now.w * a.input.now.h) a.b.now.links.now c.loop.at (get_or a.b.now.table.now (slot_width * a.k + pixel_count_place) 0 - c.loop.counter)
 here c = step _ _ _ _ (omega arith) c.loop.invariant.readable
 
 pub overflow_sub-p : goal.overflow_sub-p
@@ -94,7 +94,7 @@ pub look-found-requires : goal.look-found-requires
 look-found-requires c =
     let S = c.requires in
     let at = here (goal.at.look-found-requires c).In-loop in
-    let a = asks _ _ _ _ _ _ _ _ c.args.input.given.small S _ _ _ _ (omega arith) refl c.loop.invariant in
+    let a = asks _ _ _ _ _ _ _ _ c.args.input.now.given.small S _ _ _ _ (omega arith) refl c.loop.invariant in
     record { pixel = (omega (arith, at.some, at.within), S.labelled); notable = a.0; count_bound = a.1 }
 
 pub bounds-b-p : goal.bounds-b-p
@@ -104,7 +104,7 @@ pub loop-preserved : goal.loop-preserved
 loop-preserved c =
     let count = get_or c.args.b.now.table.now (slot_width * c.args.k + pixel_count_place) 0 in
     let e : count - (c.loop.counter + 1) ≡ count - c.loop.counter - 1 = omega arith in
-    rw e (turn _ _ _ _ _ _ _ _ c.args.input.given.small c.requires _ _ _ _ _ _ (omega arith) refl c.color.ensures c.look-found.ensures c.loop.invariant)
+    rw e (turn _ _ _ _ _ _ _ _ c.args.input.now.given.small c.requires _ _ _ _ _ _ (omega arith) refl c.color.ensures c.look-found.ensures c.loop.invariant)
 
 pub returns : goal.returns
-returns c = ends _ _ _ _ _ _ _ _ c.args.input.given.small c.requires _ _ _ (omega arith) c.loop.invariant
+returns c = ends _ _ _ _ _ _ _ _ c.args.input.now.given.small c.requires _ _ _ (omega arith) c.loop.invariant

@@ -15,5 +15,5 @@ same e f g h i = cc
 
 pub returns : goal.returns
 unfolding same_at
-returns c p q a b = let z : to_z w32 (of_z w32 c.args.input.o.is_same_color_b) ≡ c.args.input.o.is_same_color_b = search rules in
-    same c.is_same.ensures c.args.input.given.shifted z a b
+returns c p q a b = let z : to_z w32 (of_z w32 c.args.input.now.o.is_same_color_b) ≡ c.args.input.now.o.is_same_color_b = search rules in
+    same c.is_same.ensures c.args.input.now.given.shifted z a b

@@ -3,14 +3,14 @@ use Rattle.runner.proofs.Spots.{color-there}
 use Rattle.runner.proofs.stage1.joins.Goals as goal
 
 pub returns-then-is_same-2 : goal.returns-then-is_same-2
-returns-then-is_same-2 c i S = let e = color-there c.args.input.image.now i S.own in
+returns-then-is_same-2 c i S = let e = color-there c.args.input.now.image.now i S.own in
     rw (
       sym (c.is_same.ensures _ _ e S.to-up-left) ∙ c.if-is_same.true,
       sym (c.is_same-then-is_same.ensures _ _ e S.to-up) ∙ c.if-is_same-2.true,
     )
 
 pub returns-then-is_same-3 : goal.returns-then-is_same-3
-returns-then-is_same-3 c i S = let e = color-there c.args.input.image.now i S.own in
+returns-then-is_same-3 c i S = let e = color-there c.args.input.now.image.now i S.own in
     rw (
       sym (c.is_same.ensures _ _ e S.to-up-left) ∙ c.if-is_same.true,
       sym (c.is_same-then-is_same.ensures _ _ e S.to-up) ∙ c.if-is_same-2.false,
@@ -18,7 +18,7 @@ returns-then-is_same-3 c i S = let e = color-there c.args.input.image.now i S.ow
     )
 
 pub returns-else-is_same-3 : goal.returns-else-is_same-3
-returns-else-is_same-3 c i S = let e = color-there c.args.input.image.now i S.own in
+returns-else-is_same-3 c i S = let e = color-there c.args.input.now.image.now i S.own in
     rw (
       sym (c.is_same.ensures _ _ e S.to-up-left) ∙ c.if-is_same.true,
       sym (c.is_same-then-is_same.ensures _ _ e S.to-up) ∙ c.if-is_same-2.false,
@@ -26,4 +26,4 @@ returns-else-is_same-3 c i S = let e = color-there c.args.input.image.now i S.ow
     )
 
 pub returns-else-is_same : goal.returns-else-is_same
-returns-else-is_same c i S = rw (sym (c.is_same.ensures _ _ (color-there c.args.input.image.now i S.own) S.to-up-left) ∙ c.if-is_same.false)
+returns-else-is_same c i S = rw (sym (c.is_same.ensures _ _ (color-there c.args.input.now.image.now i S.own) S.to-up-left) ∙ c.if-is_same.false)

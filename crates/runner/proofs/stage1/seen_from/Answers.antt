@@ -9,11 +9,11 @@ some (Some x) h = search rules
 
 -- the pixel is on the image
 pub unwrap-own-requires : goal.unwrap-own-requires
-unwrap-own-requires c = some _ (λ e. never-off _ c.requires c.args.input.given.whole _ e c.pixel_at.ensures)
+unwrap-own-requires c = some _ (λ e. never-off _ c.requires c.args.input.now.given.whole _ e c.pixel_at.ensures)
 
 pub returns : goal.returns
 returns c = record {
-  own = own-color _ c.requires c.args.input.given.whole _ _ c.unwrap-own.ensures c.pixel_at.ensures;
+  own = own-color _ c.requires c.args.input.now.given.whole _ _ c.unwrap-own.ensures c.pixel_at.ensures;
   to-left = c.left_of.ensures;
   to-up = c.up_of.ensures;
   to-up-left = c.up_left_of.ensures;

@@ -21,9 +21,9 @@ taking : {o : RunnerConfig} {w h shift : ℕ} {image L₀ K₀ B₀ E₀ L K B E
 taking G I l t₀ e r = record { given = G; spot = spot_of I.index I.column l; holding = I.held t₀ e r; room = r }
 
 -- the pixels taken are on the image
-inside : (c : After-take_pixels-t) → (let a = c.args in c.loop-at.at.i + c.take_pixels-t.result.pixels ≤ a.input.w * a.input.h)
+inside : (c : After-take_pixels-t) → (let a = c.args in c.loop-at.at.i + c.take_pixels-t.result.pixels ≤ a.input.now.w * a.input.now.h)
 inside c =
-    omega (arith, c.take_pixels-t.ensures.pixels, row-end (taking c.args.input.given c.loop-at.invariant.going c.loop-at-test.true _ c.clear_slot.ensures c.requires.table))
+    omega (arith, c.take_pixels-t.ensures.pixels, row-end (taking c.args.input.now.given c.loop-at.invariant.going c.loop-at-test.true _ c.clear_slot.ensures c.requires.table))
 
 pub loop-at-init : goal.loop-at-init
 loop-at-init c =
@@ -32,7 +32,7 @@ loop-at-init c =
       loans = search rules;
       going = record {
         index = omega arith;
-        column = c.args.input.given.columns;
+        column = c.args.input.now.given.columns;
         within = omega arith;
         held = held-fresh _ _ _ _ B.labels B.links B.ends;
       };
@@ -41,7 +41,7 @@ loop-at-init c =
 pub pixel_past-at-requires : goal.pixel_past-at-requires
 pixel_past-at-requires c =
     let z = inside (goal.at.pixel_past-at-requires c).After-take_pixels-t in
-    (omega arith, omega arith, search rules, search rules, omega (arith, z, c.args.input.given.small))
+    (omega arith, omega arith, search rules, search rules, omega (arith, z, c.args.input.now.given.small))
 
 pub loop-at-preserved : goal.loop-at-preserved
 loop-at-preserved c = let I = c.loop-at.invariant.going in
@@ -51,7 +51,7 @@ loop-at-preserved c = let I = c.loop-at.invariant.going in
         index = c.pixel_past-at.ensures.2 I.index;
         column = c.pixel_past-at.ensures.1;
         within = omega (arith, inside (goal.at.loop-at-preserved c).After-take_pixels-t);
-        held = λ t₀ e r. rw c.pixel_past-at.ensures.0 (c.take_pixels-t.ensures.holding t₀ (taking c.args.input.given I c.loop-at-test.true t₀ e r));
+        held = λ t₀ e r. rw c.pixel_past-at.ensures.0 (c.take_pixels-t.ensures.holding t₀ (taking c.args.input.now.given I c.loop-at-test.true t₀ e r));
       };
     }
 

@@ -4,25 +4,25 @@ use Rattle.runner.proofs.Visiting.{can-put, deepen-asks, deepened-grows, deepene
 use Rattle.runner.proofs.stage2.deepen_into_nearest.Goals as goal
 
 pub put_out-put-requires : goal.put_out-put-requires
-put_out-put-requires c = can-put c.args.input.given c.requires.2.visiting
+put_out-put-requires c = can-put c.args.input.now.given c.requires.2.visiting
 
 pub deepen_cluster_into-requires : goal.deepen_cluster_into-requires
-deepen_cluster_into-requires c = let d = c.requires.2 in deepen-asks c.args.input.given d.visiting d.aimed
+deepen_cluster_into-requires c = let d = c.requires.2 in deepen-asks c.args.input.now.given d.visiting d.aimed
 
 pub append_hole-requires : goal.append_hole-requires
-append_hole-requires c = let d = c.requires.2 in hollow-asks c.args.input.given d.visiting d.aimed c.put_out-put.ensures c.deepen_cluster_into.ensures.deepened
+append_hole-requires c = let d = c.requires.2 in hollow-asks c.args.input.now.given d.visiting d.aimed c.put_out-put.ensures c.deepen_cluster_into.ensures.deepened
 
 pub grown-requires : goal.grown-requires
 grown-requires c = let d = c.requires.2 in
-    hollowed-grows c.args.input.given d.visiting d.aimed c.put_out-put.ensures c.deepen_cluster_into.ensures.deepened c.append_hole.ensures.hollowed
+    hollowed-grows c.args.input.now.given d.visiting d.aimed c.put_out-put.ensures c.deepen_cluster_into.ensures.deepened c.append_hole.ensures.hollowed
 
 pub returns-then-near-input-clause-visited : goal.returns-then-near-input-clause-visited
 returns-then-near-input-clause-visited c t₀ a d = let l = c.append_hole.ensures.lists in rw (l.0, l.1)
-    (hollowed-visited c.args.input.given d.visiting d.aimed c.put_out-put.ensures c.deepen_cluster_into.ensures.deepened c.append_hole.ensures.hollowed (le-leb _ _ c.if-near-input.true) d.deepens (omega arith) c.grown.ensures)
+    (hollowed-visited c.args.input.now.given d.visiting d.aimed c.put_out-put.ensures c.deepen_cluster_into.ensures.deepened c.append_hole.ensures.hollowed (le-leb _ _ c.if-near-input.true) d.deepens (omega arith) c.grown.ensures)
 
 pub grown-requires-2 : goal.grown-requires-2
-grown-requires-2 c = let d = c.requires.2 in deepened-grows c.args.input.given d.visiting d.aimed c.put_out-put.ensures c.deepen_cluster_into.ensures.deepened
+grown-requires-2 c = let d = c.requires.2 in deepened-grows c.args.input.now.given d.visiting d.aimed c.put_out-put.ensures c.deepen_cluster_into.ensures.deepened
 
 pub returns-clause-visited : goal.returns-clause-visited
 returns-clause-visited c t₀ a d =
-    deepened-visited c.args.input.given d.visiting d.aimed c.put_out-put.ensures c.deepen_cluster_into.ensures.deepened (lt-leb _ _ c.if-near-input.false) d.deepens (omega arith) c.grown-2.ensures
+    deepened-visited c.args.input.now.given d.visiting d.aimed c.put_out-put.ensures c.deepen_cluster_into.ensures.deepened (lt-leb _ _ c.if-near-input.false) d.deepens (omega arith) c.grown-2.ensures

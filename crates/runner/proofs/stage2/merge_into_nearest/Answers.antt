@@ -4,22 +4,22 @@ use Rattle.runner.proofs.stage2.merge_into_nearest.Goals as goal
 
 pub deepens-requires : goal.deepens-requires
 deepens-requires c = let v = c.requires.by_index.1 in
-    record { slot = own-fits c.args.input.given v; pixels = lengths-fit c.args.input.given v; list = deepens-reads c.args.input.given v c.requires.aimed; diff_bound = diff-told c.args.input.given v c.requires.aimed }
+    record { slot = own-fits c.args.input.now.given v; pixels = lengths-fit c.args.input.now.given v; list = deepens-reads c.args.input.now.given v c.requires.aimed; diff_bound = diff-told c.args.input.now.given v c.requires.aimed }
 
 pub deepen_into_nearest-requires : goal.deepen_into_nearest-requires
 deepen_into_nearest-requires c = let v = c.requires.by_index in
-    (v.0, _, record { visiting = v.1; aimed = c.requires.aimed; deepens = deepens-told c.args.input.given v.1 c.requires.aimed c.deepens.ensures c.if-deepens.true })
+    (v.0, _, record { visiting = v.1; aimed = c.requires.aimed; deepens = deepens-told c.args.input.now.given v.1 c.requires.aimed c.deepens.ensures c.if-deepens.true })
 
 pub returns-then-deepens-clause-visited : goal.returns-then-deepens-clause-visited
 returns-then-deepens-clause-visited c t₀ v = c.deepen_into_nearest.ensures.visited t₀ _
-    (record { visiting = v; aimed = c.requires.aimed; deepens = deepens-told c.args.input.given v c.requires.aimed c.deepens.ensures c.if-deepens.true })
+    (record { visiting = v; aimed = c.requires.aimed; deepens = deepens-told c.args.input.now.given v c.requires.aimed c.deepens.ensures c.if-deepens.true })
 
 pub merge_cluster_into-requires : goal.merge_cluster_into-requires
-merge_cluster_into-requires c = merge-asks c.args.input.given c.requires.by_index.1 c.requires.aimed
+merge_cluster_into-requires c = merge-asks c.args.input.now.given c.requires.by_index.1 c.requires.aimed
 
 pub grown-requires : goal.grown-requires
-grown-requires c = merged-grows c.args.input.given c.requires.by_index.1 c.requires.aimed c.merge_cluster_into.ensures.merged
+grown-requires c = merged-grows c.args.input.now.given c.requires.by_index.1 c.requires.aimed c.merge_cluster_into.ensures.merged
 
 pub returns-clause-visited : goal.returns-clause-visited
 returns-clause-visited c t₀ v =
-    merged-visited c.args.input.given v c.requires.aimed c.merge_cluster_into.ensures.merged (deepens-told c.args.input.given v c.requires.aimed c.deepens.ensures c.if-deepens.false) (omega arith) c.grown.ensures
+    merged-visited c.args.input.now.given v c.requires.aimed c.merge_cluster_into.ensures.merged (deepens-told c.args.input.now.given v c.requires.aimed c.deepens.ensures c.if-deepens.false) (omega arith) c.grown.ensures

@@ -14,36 +14,36 @@ fewer : {l m n : ℕ} → m ≡ n + 1 → n < l → l - m < l - n
 fewer e f = omega arith
 
 pub prepare_stage_2-largest-requires : goal.prepare_stage_2-largest-requires
-prepare_stage_2-largest-requires c = preparing-fits c.args.input.given c.requires.1
+prepare_stage_2-largest-requires c = preparing-fits c.args.input.now.given c.requires.1
 
 pub build-requires : goal.build-requires
-build-requires c = let s = c.prepare_stage_2-largest in building c.args.input.given c.requires.1 s.ensures s.auto.queue
+build-requires c = let s = c.prepare_stage_2-largest in building c.args.input.now.given c.requires.1 s.ensures s.auto.queue
 
 pub loop-e-init : goal.loop-e-init
 loop-e-init c = let s = c.prepare_stage_2-largest in
     record {
       lists = search rules;
       work = search rules;
-      running = record { some = (c.requires.0, started c.args.input.given c.requires.1 s.ensures s.auto.queue c.build.ensures c.build.auto.queue); from = λ t₀ x. x };
+      running = record { some = (c.requires.0, started c.args.input.now.given c.requires.1 s.ensures s.auto.queue c.build.ensures c.build.auto.queue); from = λ t₀ x. x };
     }
 
 pub first_pending-requires : goal.first_pending-requires
-first_pending-requires c = let r = picking c.args.input.given c.loop-e.invariant.running.some.1 in record { sized = r.0; tree = r.1 }
+first_pending-requires c = let r = picking c.args.input.now.given c.loop-e.invariant.running.some.1 in record { sized = r.0; tree = r.1 }
 
 pub returns-clause-staged : goal.returns-clause-staged
 returns-clause-staged c t₀ e =
     let s = c.prepare_stage_2-largest in
-    ends c.args.input.given (c.loop-e.invariant.running.from t₀ (started c.args.input.given e s.ensures s.auto.queue c.build.ensures c.build.auto.queue)) (rw c.in_default.is at c.first_pending.ensures)
+    ends c.args.input.now.given (c.loop-e.invariant.running.from t₀ (started c.args.input.now.given e s.ensures s.auto.queue c.build.ensures c.build.auto.queue)) (rw c.in_default.is at c.first_pending.ensures)
 
 -- the slot of a turn
-chosen : (c : In-Some) → of_input Chosen c.args.input c.loop-e.t.turns c.in-Some.e.slot c.in-Some.e.key
-chosen c = chooses c.args.input.given c.loop-e.invariant.running.some.1 c.in-Some.e (rw c.in-Some.is at c.first_pending.ensures)
+chosen : (c : In-Some) → of_input Chosen c.args.input.now c.loop-e.t.turns c.in-Some.e.slot c.in-Some.e.key
+chosen c = chooses c.args.input.now.given c.loop-e.invariant.running.some.1 c.in-Some.e (rw c.in-Some.is at c.first_pending.ensures)
 
 pub turn-t-requires : goal.turn-t-requires
 turn-t-requires c = record { by_index = c.loop-e.invariant.running.some; chosen = chosen (goal.at.turn-t-requires c).In-Some }
 
 pub loop-e-smaller : goal.loop-e-smaller
-loop-e-smaller c = fewer c.turn-t.ensures.turns (turns-left c.args.input.given c.loop-e.invariant.running.some.1 (chosen (goal.at.loop-e-smaller c).In-Some))
+loop-e-smaller c = fewer c.turn-t.ensures.turns (turns-left c.args.input.now.given c.loop-e.invariant.running.some.1 (chosen (goal.at.loop-e-smaller c).In-Some))
 
 pub loop-e-preserved : goal.loop-e-preserved
 loop-e-preserved c = let i = c.loop-e.invariant.running in

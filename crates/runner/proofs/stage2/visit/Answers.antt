@@ -4,38 +4,38 @@ use Rattle.runner.proofs.Visiting.{few-turns, can-put, put-visited, visit-puts, 
 use Rattle.runner.proofs.stage2.visit.Goals as goal
 
 pub put_out-requires : goal.put_out-requires
-put_out-requires c = can-put c.args.input.given c.requires.1
+put_out-requires c = can-put c.args.input.now.given c.requires.1
 
 pub returns-then-input-e-clause-visited : goal.returns-then-input-e-clause-visited
-returns-then-input-e-clause-visited c t₀ v = put-visited c.args.input.given v true (visit-puts c.args.input.given v c.if-input-e.true) (omega arith) c.put_out.ensures
+returns-then-input-e-clause-visited c t₀ v = put-visited c.args.input.now.given v true (visit-puts c.args.input.now.given v c.if-input-e.true) (omega arith) c.put_out.ensures
 
 pub isolated-requires : goal.isolated-requires
-isolated-requires c = can-put c.args.input.given c.requires.1
+isolated-requires c = can-put c.args.input.now.given c.requires.1
 
 pub returns-then-e-input-clause-visited : goal.returns-then-e-input-clause-visited
-returns-then-e-input-clause-visited c t₀ v = put-visited c.args.input.given v _ (visit-whole c.args.input.given v c.if-input-e.false c.if-e-input.true) (omega arith) c.isolated.ensures
+returns-then-e-input-clause-visited c t₀ v = put-visited c.args.input.now.given v _ (visit-whole c.args.input.now.given v c.if-input-e.false c.if-e-input.true) (omega arith) c.isolated.ensures
 
 pub overflow_add-t : goal.overflow_add-t
-overflow_add-t c = let v = c.requires.1 in omega (arith, few-turns c.args.input.given v, c.args.input.given.small)
+overflow_add-t c = let v = c.requires.1 in omega (arith, few-turns c.args.input.now.given v, c.args.input.now.given.small)
 
 pub neighbours-near-requires : goal.neighbours-near-requires
-neighbours-near-requires c = visit-scans c.args.input.given c.requires.1 (omega arith)
+neighbours-near-requires c = visit-scans c.args.input.now.given c.requires.1 (omega arith)
 
 pub isolated-requires-then-near-eq0 : goal.isolated-requires-then-near-eq0
-isolated-requires-then-near-eq0 c = can-put c.args.input.given c.requires.1
+isolated-requires-then-near-eq0 c = can-put c.args.input.now.given c.requires.1
 
 pub returns-then-near-eq0-clause-visited : goal.returns-then-near-eq0-clause-visited
 returns-then-near-eq0-clause-visited c t₀ v = let n = c.neighbours-near in
-    put-visited c.args.input.given (scanned c.args.input.given v n.new.marks n.auto.marks n.ensures.marked) _ (visit-alone c.args.input.given v n.result n.ensures.nearest c.if-input-e.false c.if-near-eq0.true) (omega arith) c.isolated-then-near-eq0.ensures
+    put-visited c.args.input.now.given (scanned c.args.input.now.given v n.new.marks n.auto.marks n.ensures.marked) _ (visit-alone c.args.input.now.given v n.result n.ensures.nearest c.if-input-e.false c.if-near-eq0.true) (omega arith) c.isolated-then-near-eq0.ensures
 
 pub merge_into_nearest-requires : goal.merge_into_nearest-requires
 merge_into_nearest-requires c =
     let n = c.neighbours-near in
     let v = c.requires.1 in
     record {
-      by_index = (c.requires.0, scanned c.args.input.given v n.new.marks n.auto.marks n.ensures.marked);
-      aimed = aims c.args.input.given v n.result n.ensures.nearest c.if-input-e.false (omega (arith, c.if-near-eq0.false));
+      by_index = (c.requires.0, scanned c.args.input.now.given v n.new.marks n.auto.marks n.ensures.marked);
+      aimed = aims c.args.input.now.given v n.result n.ensures.nearest c.if-input-e.false (omega (arith, c.if-near-eq0.false));
     }
 
 pub returns-clause-visited : goal.returns-clause-visited
-returns-clause-visited c t₀ v = let n = c.neighbours-near in c.merge_into_nearest.ensures.visited t₀ (scanned c.args.input.given v n.new.marks n.auto.marks n.ensures.marked)
+returns-clause-visited c t₀ v = let n = c.neighbours-near in c.merge_into_nearest.ensures.visited t₀ (scanned c.args.input.now.given v n.new.marks n.auto.marks n.ensures.marked)

@@ -1,0 +1,5 @@
+use Rattle.container.proofs.Stretches.{Going}
+use Rattle.container.proofs.checked.Sheet.look.Given as goal
+
+abbrev pub invariant-loop-step : goal.invariant-loop-step
+invariant-loop-step l = Going l.self.size l.self.links.now l.first l.count l.at l._step

@@ -1,0 +1,59 @@
+// The sheet that is painted: clusters whose size, buffers and counts have passed the checks before those of the entries.
+ghost use Rattle.std.specs.Prelude.{◌≡◌, ◌+◌, ◌*◌, ◌≤◌, ◌<◌, length, IfOk};
+ghost use Rattle.rules.specs.Refusals.{limit, paint_answer};
+ghost use Rattle.rules.specs.Layout.{slot_width};
+ghost use Rattle.rules.specs.Paint.{slot_number};
+ghost use Rattle.refusal.specs.Refusal.{answer_of};
+
+use image::{Clusters, layout};
+use refusal::Refusal;
+
+// A sheet of size pixels with n slots and m entries.
+#[derive(Clone, Copy)]
+pub(crate) struct Sheet<'a> {
+    pub(crate) links: &'a [u32],
+    pub(crate) table: &'a [u32],
+    pub(crate) outputs: &'a [u32],
+    pub(crate) size: u32,
+    pub(crate) n: u32,
+    pub(crate) m: u32,
+    ghost some: { 0 < size },
+    ghost small: { size ≤ limit },
+    ghost links_fit: { size ≤ length links.now },
+    ghost table_fits: { slot_width * n ≤ length table.now },
+    ghost outputs_fit: { m ≤ length outputs.now },
+}
+
+impl<'a> Sheet<'a> {
+    ghost use Rattle.container.specs.Code.Checked.{IsSheetOf};
+
+    // The sheet of clusters, where the checks before those of the entries pass; picture is a length.
+    pub(crate) fn checked(clusters: Clusters<'a>, picture: usize) -> Result<Sheet<'a>, Refusal>
+        ensures answer { let s = clusters.entry in
+            answer_of result ≡ paint_answer s.size.w s.size.h (length s.links.now) (length s.table.now)
+            (length s.outputs.now) picture s.counts.n s.counts.m }
+        ensures sheet { IfOk result (IsSheetOf clusters.entry picture) }
+    {
+        let size = clusters.pixels()?;
+        if picture != 4 * size as usize {
+            return Err(Refusal::PictureLength);
+        }
+        Ok(Sheet {
+            links: clusters.links,
+            table: clusters.table,
+            outputs: clusters.outputs,
+            size,
+            n: clusters.counts.n,
+            m: clusters.counts.m,
+        })
+    }
+
+    // The number at a place of slot k.
+    pub(crate) fn slot_number(self, k: u32, place: usize) -> u32
+        requires slot { k < self.n }
+        requires place { place < slot_width }
+        ensures { result ≡ slot_number self.entry.table.now k place }
+    {
+        self.table[layout::SLOT_WIDTH * k as usize + place]
+    }
+}

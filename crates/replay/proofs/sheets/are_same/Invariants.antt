@@ -1,9 +1,0 @@
--- The loop goes to the end of the buffer.
-use Rattle.std.specs.Prelude.{◌≡◌, ◌-◌, length}
-use Rattle.replay.proofs.sheets.are_same.Given as goal
-
-abbrev pub invariant-loop-i : goal.invariant-loop-i
-invariant-loop-i l = length l.a ≡ length l.b
-
-abbrev pub decreases-loop-i : goal.decreases-loop-i
-decreases-loop-i l = length l.a - l.i
