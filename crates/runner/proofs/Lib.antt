@@ -27,6 +27,5 @@ pub mod Prepare
 pub mod Starting
 pub mod Turning
 pub mod Visiting
-pub mod Widths
 pub mod SpanLaws
 pub mod Labels

@@ -1,14 +1,11 @@
 -- From what stage 2 leaves in the buffers to the run of the rules.
 use Rattle.std.specs.Prelude.{if◌then◌else◌}
 use mathlib.Core.Path.{◌≡◌, refl, sym, ap, ◌∙◌, subst}
-use mathlib.Core.Bool.{false}
 use mathlib.Core.List.{List, [], ◌∷◌, ◌++◌}
 use Prim.Native.Nat.{ℕ, zero, suc, ◌+◌, ◌-◌, ◌*◌, ◌≤◌, ◌<◌}
 use native.Mathlib.Nat.{sub-zero}
 use native.Mathlib.Omega.{arith}
-use borrow.Author.Tests.{ltb-false}
 use lib.Dec.{ltb}
-use lib.IntN.{pos}
 use lib.ListN.{length, get_or, take, drop, replicate}
 use lib.Seq.{length-take-le, get_or-take, ext_get_or}
 use Rattle.rules.specs.Base.{keep}
@@ -18,7 +15,6 @@ use Rattle.rules.specs.Run.{stage1, stage2, drop_empty, run}
 use Rattle.rules.specs.Layout.{link, links, slot, table, slot_width}
 use Rattle.rules.specs.Code.Order.{drained}
 use Rattle.rules.specs.Code.Ranges.{Ranged, AllBelow}
-use Rattle.rules.specs.Refusals.{bad_shift}
 use Rattle.rules.specs.Calls.{Buffers, over, leaves, accepted}
 use Rattle.rules.specs.Code.Accepted.{Accepted}
 use Rattle.rules.proofs.Bounds.{outputs-bound}
@@ -31,20 +27,6 @@ use Rattle.runner.specs.Code.Rep.{Table, slots_of}
 use Rattle.runner.specs.Code.Stage2.{Staged}
 use Rattle.runner.specs.Code.Calls.{Clustered}
 use Rattle.runner.proofs.Tables.{sum-at, table-over}
-
--- ---- stage 1
-
--- zeros are zero everywhere
-zeros-at : (n j : ℕ) → get_or {A = ℕ} (replicate n 0) j 0 ≡ 0
-zeros-at zero j = refl
-zeros-at (suc n) zero = refl
-zeros-at (suc n) (suc j) = zeros-at n j
-
--- a shift that is not refused
-shift-narrow : {n : ℕ} → bad_shift (pos n) ≡ false → n < 8
-shift-narrow {n} e = omega (arith, ltb-false 7 n e)
-
--- ---- the end
 
 -- a list whose beginning was lent: what came back stands before the rest
 abbrev pub with_front : List ℕ → ℕ → List ℕ → List ℕ

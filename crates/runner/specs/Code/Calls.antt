@@ -4,12 +4,15 @@ use Rattle.rules.specs.State.{State}
 use Rattle.rules.specs.Layout.{links, table, slot_width}
 use Rattle.rules.specs.Calls.{over}
 
--- labels, links and marks are zero
+-- labels, links and marks are zero, and the rest stays
 pub record Blanked (L K B E Q M S L' K' B' E' Q' M' S' : List ℕ) : Type 0 where
   pub labels : L' ≡ replicate (length L) 0
   pub links : K' ≡ replicate (length K) 0
   pub table : B' ≡ B
+  pub ends : E' ≡ E
+  pub queue : Q' ≡ Q
   pub marks : M' ≡ replicate (length M) 0
+  pub staged : S' ≡ S
 
 -- what a run asks for: labels and links of exactly one number for each pixel, and for each slot of exactly two ends,
 -- three numbers of the queue, one mark and two outputs
