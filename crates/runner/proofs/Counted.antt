@@ -11,7 +11,6 @@ use lib.ListN.{length, get_or, set, take, drop, length-append}
 use lib.Seq.{take-suc, drop-cons, set-append_seam, length-take-le}
 use Rattle.rules.specs.Base.{keep}
 use Rattle.rules.specs.Calls.{over}
-use Rattle.rules.proofs.Calls.{over-length}
 use Rattle.rules.proofs.Sorted.{keep_append}
 use Rattle.rules.proofs.Facts.{keep-le}
 use Rattle.rules.specs.Layout.{slot_width, sum_count_place}
@@ -69,7 +68,3 @@ done_more {table} {outputs₀} {outputs} {outputs'} {kept} {r} staged i l b D K 
 -- no more are kept than are done
 pub done-few : {table outputs₀ outputs : List ℕ} {kept : ℕ} (staged : List ℕ) (i : ℕ) → i ≤ length staged → Done table outputs₀ (take i staged) outputs kept → kept ≤ i
 done-few {table} {outputs₀} {outputs} {kept} staged i l D = omega (arith, D.number, counted-few table (take i staged), length-take-le i staged l)
-
-pub done-length : {table outputs₀ outputs : List ℕ} {kept : ℕ} (staged : List ℕ) (i : ℕ) → i ≤ length staged → i ≤ length outputs₀ → Done table outputs₀ (take i staged) outputs kept → length outputs ≡ length outputs₀
-done-length {table} {outputs₀} {outputs} {kept} staged i l b D =
-    ap length D.written ∙ over-length (counted table (take i staged)) outputs₀ (omega (arith, counted-few table (take i staged), length-take-le i staged l))

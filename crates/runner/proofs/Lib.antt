@@ -19,7 +19,6 @@ pub mod Counted
 pub mod Spots
 pub mod Stage1Laws
 pub mod Stage1Steps
-pub mod Parts
 pub mod Runs
 pub mod Carried
 pub mod Merges
@@ -28,7 +27,5 @@ pub mod Prepare
 pub mod Starting
 pub mod Turning
 pub mod Visiting
-pub mod Widths
-pub mod Rooms
 pub mod SpanLaws
 pub mod Labels

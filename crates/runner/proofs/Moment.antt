@@ -24,13 +24,25 @@ use Rattle.rules.proofs.Holes.{Holes, turns-holes}
 use Rattle.rules.proofs.Ranges.{turns-ranged}
 use Rattle.rules.proofs.Turns.{Ready, turn-ready, turns-outputs}
 use Rattle.rules.proofs.Neighbours.{all_in}
+use Rattle.rules.specs.Code.Bounds.{capacity}
+use Rattle.runner.specs.Code.Given.{Given}
 use Rattle.runner.specs.Code.Rep.{Rep}
 use Rattle.runner.specs.Code.Interior.{some_inside}
 use Rattle.runner.specs.Code.Neighbours.{diff_at, nearest_of, Averaged, Scannable, list_at}
-use Rattle.runner.specs.Code.Stage2.{Image, queue_at, patch_good_at, deepens_at}
+use Rattle.runner.specs.Code.Stage2.{queue_at, patch_good_at, deepens_at}
 use Rattle.runner.proofs.Tables.{sum-at, first-at, count_at}
 use Rattle.runner.proofs.RepReads.{root-chain, rep-reads, rep-walk, rep-labels-length, rep-links-length}
 use Rattle.runner.proofs.Nearest.{neighbours-nearest}
+
+-- an image of w columns and h rows
+pub record Image (w h : ℕ) (image : List ℕ) : Type 0 where
+  pub columns : 0 < w
+  pub small : w * h ≤ capacity
+  pub whole : length image ≡ 4 * (w * h)
+  pub bytes : (i : ℕ) → get_or image i 0 ≤ 255
+
+pub image-of : {o : RunnerConfig} {w h : ℕ} {image : List ℕ} {shift : ℕ} → Given o w h image shift → Image w h image
+image-of G = record { columns = G.columns; small = G.small; whole = G.whole; bytes = G.bytes }
 
 -- slot k is picked before a turn of the rules
 pub record At (o : RunnerConfig) (w h : ℕ) (image : List ℕ) (q : Queue) (k : ℕ) : Type 0 where
@@ -117,8 +129,6 @@ module _ {o : RunnerConfig} {w h : ℕ} {image : List ℕ} {q : Queue} {k : ℕ}
     -- the scan for its neighbours
     pub scannable : (M : List ℕ) → length M ≡ w * h + 1 → (v : ℕ) → ((j : ℕ) → get_or M j 0 < v) → Scannable L K B M w h k v
     scannable M wide v low = record {
-      width = A.image-fits.columns;
-      small = omega (arith, A.image-fits.small);
       labelled = omega (arith, rep-labels-length going.sound.basic R);
       linked = omega (arith, rep-links-length going.sound.basic R);
       own = averaged k (get_or (cluster s k).pixels 0 0) (visits.stands (area (cluster s k)) k s going some-pixels refl);

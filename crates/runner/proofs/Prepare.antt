@@ -1,6 +1,6 @@
 -- The loop that prepares the slots for stage 2.
 use Rattle.std.specs.Prelude.{if◌then◌else◌}
-use mathlib.Core.Path.{◌≡◌, refl, sym, ap, ◌∙◌, subst}
+use mathlib.Core.Path.{◌≡◌, sym, ap, ◌∙◌, subst}
 use mathlib.Core.List.{List}
 use Prim.Native.Nat.{ℕ, ◌+◌, ◌*◌, ◌≤◌, ◌<◌, max}
 use native.Mathlib.Decide.{ℕ_discrete}
@@ -18,7 +18,7 @@ use Rattle.runner.specs.Code.Slots.{head_at}
 use Rattle.runner.specs.Code.Rep.{Table, slots_of}
 use Rattle.runner.specs.Code.Queue.{queue_key}
 use Rattle.runner.specs.Code.Stage2.{PreparedSlot, Prepared}
-use Rattle.runner.proofs.RepStage2.{preparing, prepare-start, prepare-end, prepare-head-sum, prepare-step}
+use Rattle.runner.proofs.RepStage2.{preparing, prepare-end, prepare-head-sum, prepare-step}
 
 -- table B holds the n slots of s, which t₀ has room for
 pub record Held (n : ℕ) (B : List ℕ) (s : State) (t₀ : List ℕ) : Type 0 where
@@ -51,18 +51,6 @@ largest-from cs k l = rw add-one (ap largest (drop-cons cs k new_cluster l))
 largest-end : (cs : List Cluster) (k : ℕ) → length cs ≤ k → largest (drop k cs) ≡ 0
 unfolding largest
 largest-end cs k l = ap largest (drop_of_length-le cs l)
-
-pub prepare-begin : (n : ℕ) (B Q : List ℕ) → n ≤ length Q → Preparing n B Q B Q 0 0
-prepare-begin n B Q w = record {
-  inside = omega arith;
-  wide = w;
-  long = refl;
-  same = refl;
-  state = λ s t₀ H. prepare-start s H.table;
-  keys = λ s t₀ H j l. absurd (omega arith);
-  rest = λ j l. refl;
-  most = λ s t₀ H. omega arith;
-}
 
 pub prepare-next : {n : ℕ} {B₀ Q₀ B Q B' Q' : List ℕ} {k r r' : ℕ} → Preparing n B₀ Q₀ B Q k r → k < n → length B' ≡ length B → PreparedSlot k r B Q B' Q' r'
     → Preparing n B₀ Q₀ B' Q' (k + 1) r'

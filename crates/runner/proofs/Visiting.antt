@@ -10,7 +10,7 @@ use lib.ListN.{length, get_or, set, length-append}
 use borrow.Author.Tests.{lt-ltb, le-ltb}
 use Rattle.rules.specs.Color.{RunnerConfig, discards}
 use Rattle.rules.specs.State.{State, plain, deepened, cluster, label, area, put_out, merge_cluster_into, deepen_cluster_into}
-use Rattle.rules.specs.Layout.{link, links, slot, slot_width, first_pixel_place, pixel_count_place}
+use Rattle.rules.specs.Layout.{slot_width, first_pixel_place, pixel_count_place}
 use Rattle.rules.specs.Paint.{reads}
 use Rattle.rules.specs.Stage2.{labels_around, neighbours, cluster_diff, rank, deepens, isolated, merge_into_nearest, by_neighbours}
 use Rattle.rules.specs.Code.Order.{Queue, rekey, largest}
@@ -20,50 +20,42 @@ use Rattle.rules.proofs.Visits as visits
 use Rattle.rules.proofs.Outputs.{whole-alone}
 use Rattle.rules.proofs.Largest.{merge-largest, deepen-largest}
 use Rattle.rules.proofs.Order.{turns-few, rekey-still, rekey-moved}
-use Rattle.rules.specs.Code.Bounds.{count_bound, capacity}
+use Rattle.rules.specs.Code.Bounds.{capacity}
 use Rattle.runner.specs.declared.stage2.Turns.{Turns}
 use Rattle.runner.specs.declared.cluster.Nearest.{Nearest}
-use Rattle.runner.specs.Code.Rep.{Rep}
+use Rattle.runner.specs.Code.Given.{Given}
 use Rattle.runner.specs.Code.Ops.{CanMerge, Merged, CanDeepen, Deepened, CanHollow, Hollowed}
 use Rattle.runner.specs.Code.Queue.{KeySet, queue_key}
 use Rattle.runner.specs.Code.Neighbours.{diff_at, nearest_of, Scannable, list_at}
-use Rattle.runner.specs.Code.Stage2.{with_part, queue_part, ends_part, marks_part, Carried, CanPut, Put, goes_out, CanGrow, Grown, queue_at, visit_at, Visiting, Aimed, Visited, deepens_at}
-use Rattle.runner.proofs.Parts.{part_length}
+use Rattle.runner.specs.Code.Stage2.{Carried, CanPut, Put, goes_out, CanGrow, Grown, queue_at, visit_at, Visiting, Aimed, Visited, deepens_at}
 use Rattle.runner.proofs.Queues.{stored_some}
 use Rattle.runner.proofs.Tables.{count_at}
 use Rattle.runner.proofs.RepReads.{rep-labels-length, rep-links-length}
-use Rattle.runner.proofs.Carried.{carried-put, carried-queue, carried-ends, carried-marks, carried_later}
-use Rattle.runner.proofs.Moment.{At, at, going, some-pixels, diff-fits, slot-fits, list-reads, scannable, nearest-is, deepens-is}
+use Rattle.runner.proofs.Carried.{carried-put, carried-queue, carried-lists, carried-marks, carried_later}
+use Rattle.runner.proofs.Moment.{At, at, image-of, going, some-pixels, diff-fits, slot-fits, list-reads, scannable, nearest-is, deepens-is}
 use Rattle.runner.proofs.Merges.{can-merge, can-deepen, merged-rep, deepened-rep, can-hollow, hollowed-rep, target-slot}
 
 -- ---- the target's key
 
-module _ {size : ℕ} {u : State} {keys t₀ L K B W : List ℕ} {n m marks : ℕ} (C : Carried size u keys t₀ L K B W n m marks) (small : size ≤ capacity) (few : n ≤ size + 1) (to : ℕ) (inside : to < n) where
-  pub can-grow : slot_width * (size + 1) ≤ length t₀ → CanGrow (size + 1) n to B W
+module _ {size : ℕ} {u : State} {keys t₀ L K B E Q M S : List ℕ} {n m marks : ℕ} (C : Carried size u keys t₀ L K B E Q M S n m marks) (small : size ≤ capacity) (few : n ≤ size + 1) (to : ℕ) (inside : to < n) where
+  pub can-grow : slot_width * (size + 1) ≤ length t₀ → CanGrow (size + 1) n to B Q
   can-grow fits = record {
     slot = omega (arith, C.rep.tabled.long);
-    long = C.long;
-    sized = record { some = omega arith; within = few; fits = omega arith; small = omega arith };
+    sized = record { some = omega arith; within = few; fits = omega (arith, C.queue-long); small = omega arith };
     inside = inside;
     tree = C.tree;
   }
 
-  pub carried-grown : 0 < area (cluster u to) → area (cluster u to) < 4294967295 → {t r : Turns} → t.n ≡ n → {W' : List ℕ} → Grown (size + 1) to t r B W W'
-      → Carried size u (set keys to (area (cluster u to))) t₀ L K B W' n m marks
-  carried-grown some low {t} {r} e {W'} G =
-      subst (λ x. Carried size u (set keys to (area (cluster u to))) t₀ L K B x n m marks) (sym G.work)
-      (carried-queue C G.queue G.wide to (area (cluster u to)) inside few low (subst (KeySet (queue_part (size + 1) W) G.queue n (size + 1) to) count key))
+  pub carried-grown : 0 < area (cluster u to) → area (cluster u to) < 4294967295 → {t r : Turns} → t.n ≡ n → {Q' : List ℕ} → Grown (size + 1) to t r B Q Q'
+      → Carried size u (set keys to (area (cluster u to))) t₀ L K B E Q' M S n m marks
+  carried-grown some low {t} {r} e {Q'} G =
+      carried-queue C Q' G.wide to (area (cluster u to)) inside few low (subst (KeySet Q Q' n (size + 1) to) count key)
     where
       count : get_or B (slot_width * to + pixel_count_place) 0 ≡ queue_key (area (cluster u to))
       count = count_at u C.rep.tabled to (omega (arith, C.slots)) ∙ sym (stored_some (area (cluster u to)) some)
 
-      key : KeySet (queue_part (size + 1) W) G.queue n (size + 1) to (get_or B (slot_width * to + pixel_count_place) 0)
-      key = subst (λ x. KeySet (queue_part (size + 1) W) G.queue x (size + 1) to (get_or B (slot_width * to + pixel_count_place) 0)) e G.keyed
-
--- buffers that hold a state with one more output hold the state
-unput : {size : ℕ} {s : State} {t₀ L K B E : List ℕ} (k : ℕ) → Rep size (put_out k s) t₀ L K B E → Rep size s t₀ L K B E
-unfolding put_out links link slot
-unput k R = record { labelled = R.labelled; linked = R.linked; tabled = R.tabled; tails = R.tails; hole-tails = R.hole-tails; room = R.room }
+      key : KeySet Q Q' n (size + 1) to (get_or B (slot_width * to + pixel_count_place) 0)
+      key = subst (λ x. KeySet Q Q' x (size + 1) to (get_or B (slot_width * to + pixel_count_place) 0)) e G.keyed
 
 -- ---- the visit of the rules
 
@@ -96,7 +88,7 @@ pub none-near : (key : ℕ → ℕ) (ns : List ℕ) → (nearest_of key ns).coun
 none-near key [] e = refl
 none-near key (x ∷ xs) e = absurd (omega arith)
 
-module _ {o : RunnerConfig} {w h : ℕ} {image t₀ L K B W : List ℕ} {t : Turns} {k a marks : ℕ} (X : Visiting o w h image t₀ L K B W t k a marks) where
+module _ {o : RunnerConfig} {w h : ℕ} {image : List ℕ} {shift : ℕ} (I : Given o w h image shift) {t₀ L K B E Q M S : List ℕ} {t : Turns} {k a marks : ℕ} (X : Visiting o w h image t₀ L K B E Q M S t k a marks) where
   abbrev q : Queue
   q = queue_at o w h image t.turns
 
@@ -104,42 +96,40 @@ module _ {o : RunnerConfig} {w h : ℕ} {image t₀ L K B W : List ℕ} {t : Tur
   s = (queue_at o w h image t.turns).now
 
   moment : At o w h image (queue_at o w h image t.turns) k
-  moment = at o w h image X.image-fits t.turns k X.chosen.picked
+  moment = at o w h image (image-of I) t.turns k X.chosen.picked
 
   pub few-turns : t.turns < 2 * (w * h)
   few-turns = turns-few o w h image t.turns k X.chosen.picked
 
-  pub can-put : CanPut (w * h + 1) t.m W
-  can-put = record { long = X.carried.long; few = omega (arith, X.carried.entries, moment.outputs); small = omega (arith, X.image-fits.small) }
+  pub can-put : CanPut t.m S
+  can-put = record { few = omega (arith, X.carried.entries, moment.outputs, X.carried.staged-long); small = omega (arith, X.carried.staged-long, I.small) }
 
   -- its slot can be read
   pub own-fits : slot_width * k + slot_width ≤ length B
   own-fits = slot-fits moment X.carried.rep X.table_fits k moment.ready.picked.slot
 
   -- what the boundary test asks of the lengths
-  pub lengths-fit : (w * h ≡ length L) × (w * h ≤ length K) × (4 * length L ≤ length image) × (w * h ≤ count_bound) × (0 < w)
-  lengths-fit =
-      let l = rep-labels-length (going moment).sound.basic X.carried.rep in
-      (sym l, omega (arith, rep-links-length (going moment).sound.basic X.carried.rep), omega (arith, l, X.image-fits.whole), omega (arith, X.image-fits.small), X.image-fits.columns)
+  pub lengths-fit : (w * h ≡ length L) × (w * h ≤ length K)
+  lengths-fit = (sym (rep-labels-length (going moment).sound.basic X.carried.rep), omega (arith, rep-links-length (going moment).sound.basic X.carried.rep))
 
   -- a visit that puts the cluster out, or does nothing
   pub put-visited : (b : Bool) → visit_at o w h image t.turns k ≡ (if b then put_out k (queue_at o w h image t.turns).now else (queue_at o w h image t.turns).now) → marks ≤ t.turns + 1
-      → {r : Turns} {W' : List ℕ} → Put b (w * h + 1) k t r W W' → Visited o w h image t₀ L K B W' t r k
+      → {r : Turns} {S' : List ℕ} → Put b k t r S S' → Visited o w h image t₀ L K B E Q M S' t r k
   unfolding put_out
-  put-visited true e l {r} {W'} P = record {
-    carried = subst (λ u. Carried (w * h) u (rekey k s u q.keys) t₀ L K B W' r.n r.m (t.turns + 1)) (sym e)
-        (subst (λ keys. Carried (w * h) (put_out k s) keys t₀ L K B W' r.n r.m (t.turns + 1)) (sym (rekey-still k s (put_out k s) q.keys refl))
-        (subst (λ x. Carried (w * h) (put_out k s) (set q.keys k 0) t₀ L K B W' x.n x.m (t.turns + 1)) (sym P.turns)
-        (subst (λ x. Carried (w * h) (put_out k s) (set q.keys k 0) t₀ L K B x t.n (t.m + 1) (t.turns + 1)) (sym P.work)
+  put-visited true e l {r} {S'} P = record {
+    carried = subst (λ u. Carried (w * h) u (rekey k s u q.keys) t₀ L K B E Q M S' r.n r.m (t.turns + 1)) (sym e)
+        (subst (λ keys. Carried (w * h) (put_out k s) keys t₀ L K B E Q M S' r.n r.m (t.turns + 1)) (sym (rekey-still k s (put_out k s) q.keys refl))
+        (subst (λ x. Carried (w * h) (put_out k s) (set q.keys k 0) t₀ L K B E Q M S' x.n x.m (t.turns + 1)) (sym P.turns)
+        (subst (λ x. Carried (w * h) (put_out k s) (set q.keys k 0) t₀ L K B E Q M x t.n (t.m + 1) (t.turns + 1)) (sym P.staged)
         (carried_later (carried-put X.carried k can-put.few) (t.turns + 1) l))));
     same = ap (λ x. x.turns) P.turns;
     top = ap (λ x. x.largest) P.turns ∙ X.top ∙ sym (ap (λ u. largest u.clusters) e);
   }
-  put-visited false e l {r} {W'} P = record {
-    carried = subst (λ u. Carried (w * h) u (rekey k s u q.keys) t₀ L K B W' r.n r.m (t.turns + 1)) (sym e)
-        (subst (λ keys. Carried (w * h) s keys t₀ L K B W' r.n r.m (t.turns + 1)) (sym (rekey-still k s s q.keys refl))
-        (subst (λ x. Carried (w * h) s (set q.keys k 0) t₀ L K B W' x.n x.m (t.turns + 1)) (sym P.turns)
-        (subst (λ x. Carried (w * h) s (set q.keys k 0) t₀ L K B x t.n t.m (t.turns + 1)) (sym P.work)
+  put-visited false e l {r} {S'} P = record {
+    carried = subst (λ u. Carried (w * h) u (rekey k s u q.keys) t₀ L K B E Q M S' r.n r.m (t.turns + 1)) (sym e)
+        (subst (λ keys. Carried (w * h) s keys t₀ L K B E Q M S' r.n r.m (t.turns + 1)) (sym (rekey-still k s s q.keys refl))
+        (subst (λ x. Carried (w * h) s (set q.keys k 0) t₀ L K B E Q M S' x.n x.m (t.turns + 1)) (sym P.turns)
+        (subst (λ x. Carried (w * h) s (set q.keys k 0) t₀ L K B E Q M x t.n t.m (t.turns + 1)) (sym P.staged)
         (carried_later X.carried (t.turns + 1) l))));
     same = ap (λ x. x.turns) P.turns;
     top = ap (λ x. x.largest) P.turns ∙ X.top ∙ sym (ap (λ u. largest u.clusters) e);
@@ -168,17 +158,14 @@ module _ {o : RunnerConfig} {w h : ℕ} {image t₀ L K B W : List ℕ} {t : Tur
 
   -- ---- the scan
 
-  pub visit-scans : marks ≤ t.turns → Scannable L K B (marks_part (w * h + 1) W) w h k (t.turns + 1)
-  visit-scans l = scannable moment X.carried.rep X.table_fits (marks_part (w * h + 1) W) (part_length W (5 * (w * h + 1)) (6 * (w * h + 1)) (omega (arith, X.carried.long)) ∙ omega arith) (t.turns + 1)
-      (λ j. omega (arith, X.carried.marked j))
+  pub visit-scans : marks ≤ t.turns → Scannable L K B M w h k (t.turns + 1)
+  visit-scans l = scannable moment X.carried.rep X.table_fits M X.carried.marks-long (t.turns + 1) (λ j. omega (arith, X.carried.marked j))
 
-  pub scanned : (M : List ℕ) → length M ≡ length (marks_part (w * h + 1) W) → ((j : ℕ) → get_or M j 0 ≤ t.turns + 1)
-      → Visiting o w h image t₀ L K B (with_part W (5 * (w * h + 1)) (6 * (w * h + 1)) M) t k a (t.turns + 1)
-  scanned M e low = record {
-    image-fits = X.image-fits;
+  pub scanned : (M' : List ℕ) → length M' ≡ length M → ((j : ℕ) → get_or M' j 0 ≤ t.turns + 1) → Visiting o w h image t₀ L K B E Q M' S t k a (t.turns + 1)
+  scanned M' e low = record {
     table_fits = X.table_fits;
     chosen = X.chosen;
-    carried = carried-marks X.carried M (omega (arith, part_length W (5 * (w * h + 1)) (6 * (w * h + 1)) (omega (arith, X.carried.long)))) (t.turns + 1) low;
+    carried = carried-marks X.carried M' e (t.turns + 1) low;
     top = X.top;
   }
 
@@ -206,13 +193,12 @@ module _ {o : RunnerConfig} {w h : ℕ} {image t₀ L K B W : List ℕ} {t : Tur
     apart : k ≡ near.target → ⊥
     apart = visits.k≢t (area (cluster s k)) k s (going moment) (some-pixels moment) refl to aim.near-to
 
-    -- the test for deepening, with the first pixel that code reads
-    module _ (first : ℕ) (e : first ≡ get_or B (slot_width * k + first_pixel_place) 0) where
-      pub deepens-told : {x y : Bool} → x ≡ deepens_at o image L K w h k first a near.diff → x ≡ y → deepens o w h (queue_at o w h image t.turns).now k near.target ≡ y
-      deepens-told p r = sym (ap₂ (λ f n. deepens_at o image L K w h k f n near.diff) e X.chosen.count ∙ deepens-is moment X.carried.rep X.table_fits to near.diff aim.differs) ∙ sym p ∙ r
+    -- the test for deepening, as code makes it
+    pub deepens-told : {x y : Bool} → x ≡ deepens_at o image L K w h k (get_or B (slot_width * k + first_pixel_place) 0) a near.diff → x ≡ y → deepens o w h (queue_at o w h image t.turns).now k near.target ≡ y
+    deepens-told p r = sym (ap (λ n. deepens_at o image L K w h k (get_or B (slot_width * k + first_pixel_place) 0) n near.diff) X.chosen.count ∙ deepens-is moment X.carried.rep X.table_fits to near.diff aim.differs) ∙ sym p ∙ r
 
-      pub deepens-reads : T (reads (w * h) K first a)
-      deepens-reads = subst (λ f. T (reads (w * h) K f a)) (sym e) (subst (λ n. T (reads (w * h) K (get_or B (slot_width * k + first_pixel_place) 0) n)) (sym X.chosen.count) (list-reads moment X.carried.rep X.table_fits))
+    pub deepens-reads : T (reads (w * h) K (get_or B (slot_width * k + first_pixel_place) 0) a)
+    deepens-reads = subst (λ n. T (reads (w * h) K (get_or B (slot_width * k + first_pixel_place) 0) n)) (sym X.chosen.count) (list-reads moment X.carried.rep X.table_fits)
 
     pub diff-told : near.diff < 2147483648
     diff-told = omega (arith, aim.differs, diff-fits moment to)
@@ -226,50 +212,49 @@ module _ {o : RunnerConfig} {w h : ℕ} {image t₀ L K B W : List ℕ} {t : Tur
     moved : (u : State) → visit_at o w h image t.turns k ≡ u → Moved k near.target (queue_at o w h image t.turns).now u
         → rekey k (queue_at o w h image t.turns).now u (queue_at o w h image t.turns).keys ≡ set (set (queue_at o w h image t.turns).keys k 0) near.target (area (cluster u near.target))
         → largest u.clusters ≡ max (largest (queue_at o w h image t.turns).now.clusters) (area (cluster u near.target))
-        → marks ≤ t.turns + 1 → {t₁ r : Turns} → t₁.turns ≡ t.turns → t₁.largest ≡ t.largest → {L' K' B' W₁ W' : List ℕ}
-        → Carried (w * h) u (set (queue_at o w h image t.turns).keys k 0) t₀ L' K' B' W₁ t₁.n t₁.m marks → Grown (w * h + 1) near.target t₁ r B' W₁ W'
-        → Visited o w h image t₀ L' K' B' W' t r k
-    moved u e M keys top l {t₁} {r} same most {L'} {K'} {B'} {W₁} {W'} C G = record {
-      carried = subst (λ v. Carried (w * h) v (rekey k s v q.keys) t₀ L' K' B' W' r.n r.m (t.turns + 1)) (sym e)
-          (subst (λ y. Carried (w * h) u y t₀ L' K' B' W' r.n r.m (t.turns + 1)) (sym keys)
-          (subst (λ y. Carried (w * h) u (set (set q.keys k 0) to (area (cluster u to))) t₀ L' K' B' W' y.n y.m (t.turns + 1)) (sym G.turns)
-          (carried_later (carried-grown C X.image-fits.small few to held (omega (arith, count, some-pixels moment)) (omega (arith, count, moment.ranged.areas k, moment.ranged.areas to, X.image-fits.small)) refl G) (t.turns + 1) l)));
+        → marks ≤ t.turns + 1 → {t₁ r : Turns} → t₁.turns ≡ t.turns → t₁.largest ≡ t.largest → {L' K' B' E' S' Q' : List ℕ}
+        → Carried (w * h) u (set (queue_at o w h image t.turns).keys k 0) t₀ L' K' B' E' Q M S' t₁.n t₁.m marks → Grown (w * h + 1) near.target t₁ r B' Q Q'
+        → Visited o w h image t₀ L' K' B' E' Q' M S' t r k
+    moved u e N keys top l {t₁} {r} same most {L'} {K'} {B'} {E'} {S'} {Q'} C G = record {
+      carried = subst (λ v. Carried (w * h) v (rekey k s v q.keys) t₀ L' K' B' E' Q' M S' r.n r.m (t.turns + 1)) (sym e)
+          (subst (λ y. Carried (w * h) u y t₀ L' K' B' E' Q' M S' r.n r.m (t.turns + 1)) (sym keys)
+          (subst (λ y. Carried (w * h) u (set (set q.keys k 0) to (area (cluster u to))) t₀ L' K' B' E' Q' M S' y.n y.m (t.turns + 1)) (sym G.turns)
+          (carried_later (carried-grown C I.small few to held (omega (arith, count, some-pixels moment)) (omega (arith, count, moment.ranged.areas k, moment.ranged.areas to, I.small)) refl G) (t.turns + 1) l)));
       same = ap (λ y. y.turns) G.turns ∙ same;
       top = ap (λ y. y.largest) G.turns ∙ ap₂ max (most ∙ X.top) (count_at u C.rep.tabled to (omega (arith, held, C.slots))) ∙ sym top ∙ sym (ap (λ v. largest v.clusters) e);
     }
       where
         held : near.target < t₁.n
-        held = omega (arith, inside, C.slots, M.table)
+        held = omega (arith, inside, C.slots, N.table)
 
         few : t₁.n ≤ w * h + 1
-        few = omega (arith, C.slots, M.table, moment.ranged.slots)
+        few = omega (arith, C.slots, N.table, moment.ranged.slots)
 
         count : area (cluster u near.target) ≡ area (cluster (queue_at o w h image t.turns).now near.target) + area (cluster (queue_at o w h image t.turns).now k)
-        count = ap length M.t-pixels ∙ length-append (cluster s to).pixels (cluster s k).pixels
+        count = ap length N.t-pixels ∙ length-append (cluster s to).pixels (cluster s k).pixels
 
     -- what the key asks
-    grow-asks : (u : State) → Moved k near.target (queue_at o w h image t.turns).now u → {keys L' K' B' W₁ : List ℕ} {n m : ℕ} → Carried (w * h) u keys t₀ L' K' B' W₁ n m marks → CanGrow (w * h + 1) n near.target B' W₁
-    grow-asks u M C = can-grow C X.image-fits.small (omega (arith, C.slots, M.table, moment.ranged.slots)) to (omega (arith, inside, C.slots, M.table)) X.table_fits
+    grow-asks : (u : State) → Moved k near.target (queue_at o w h image t.turns).now u → {keys L' K' B' E' S' : List ℕ} {n m : ℕ} → Carried (w * h) u keys t₀ L' K' B' E' Q M S' n m marks → CanGrow (w * h + 1) n near.target B' Q
+    grow-asks u N C = can-grow C I.small (omega (arith, C.slots, N.table, moment.ranged.slots)) to (omega (arith, inside, C.slots, N.table)) X.table_fits
 
     -- ---- a plain merge
 
     merges : Moved k near.target (queue_at o w h image t.turns).now (merge_cluster_into k near.target (queue_at o w h image t.turns).now)
     merges = merge-moved k to s apart moment.ready.picked.slot inside
 
-    pub merge-asks : CanMerge k near.target L K B (ends_part (w * h + 1) W)
+    pub merge-asks : CanMerge k near.target L K B E
     merge-asks = can-merge moment to aim.near-to X.carried.rep X.table_fits
 
-    module _ {L' K' B' E' : List ℕ} (M : Merged k near.target L K B (ends_part (w * h + 1) W) L' K' B' E') where
-      carried-merged : Carried (w * h) (merge_cluster_into k near.target (queue_at o w h image t.turns).now) (set (queue_at o w h image t.turns).keys k 0) t₀ L' K' B'
-          (with_part W (3 * (w * h + 1)) (5 * (w * h + 1)) E') t.n t.m marks
+    module _ {L' K' B' E' : List ℕ} (N : Merged k near.target L K B E L' K' B' E') where
+      carried-merged : Carried (w * h) (merge_cluster_into k near.target (queue_at o w h image t.turns).now) (set (queue_at o w h image t.turns).keys k 0) t₀ L' K' B' E' Q M S t.n t.m marks
       unfolding merge_cluster_into
-      carried-merged = carried-ends X.carried (merged-rep moment to aim.near-to X.carried.rep X.table_fits M) merges.table refl
+      carried-merged = carried-lists X.carried (merged-rep moment to aim.near-to X.carried.rep X.table_fits N) merges.table refl
 
-      pub merged-grows : CanGrow (w * h + 1) t.n near.target B' (with_part W (3 * (w * h + 1)) (5 * (w * h + 1)) E')
+      pub merged-grows : CanGrow (w * h + 1) t.n near.target B' Q
       merged-grows = grow-asks (merge_cluster_into k to s) merges carried-merged
 
       pub merged-visited : deepens o w h (queue_at o w h image t.turns).now k near.target ≡ false → marks ≤ t.turns + 1
-          → {r : Turns} {W' : List ℕ} → Grown (w * h + 1) near.target t r B' (with_part W (3 * (w * h + 1)) (5 * (w * h + 1)) E') W' → Visited o w h image t₀ L' K' B' W' t r k
+          → {r : Turns} {Q' : List ℕ} → Grown (w * h + 1) near.target t r B' Q Q' → Visited o w h image t₀ L' K' B' E' Q' M S t r k
       unfolding merge_cluster_into
       merged-visited e l G = moved (merge_cluster_into k to s) (goes_to false e) merges (rekey-moved k s (merge_cluster_into k to s) q.keys (plain k to) refl)
           (merge-largest (area (cluster s k)) k s (going moment) (some-pixels moment) refl to aim.near-to) l refl refl carried-merged G
@@ -279,51 +264,48 @@ module _ {o : RunnerConfig} {w h : ℕ} {image t₀ L K B W : List ℕ} {t : Tur
     digs : (b : Bool) → Moved k near.target (queue_at o w h image t.turns).now (deepen_cluster_into b k near.target (queue_at o w h image t.turns).now)
     digs b = deepen-moved k to s apart moment.ready.picked.slot inside b
 
-    module _ {t₁ : Turns} {W₁ : List ℕ} (P : Put true (w * h + 1) k t t₁ W W₁) where
+    pub deepen-asks : CanDeepen k near.target L K B E
+    deepen-asks = can-deepen moment to aim.near-to X.carried.rep X.table_fits
+
+    module _ {t₁ : Turns} {S' : List ℕ} (P : Put true k t t₁ S S') where
       -- it is put out first
-      out : Carried (w * h) (put_out k (queue_at o w h image t.turns).now) (set (queue_at o w h image t.turns).keys k 0) t₀ L K B W₁ t₁.n t₁.m marks
+      out : Carried (w * h) (put_out k (queue_at o w h image t.turns).now) (set (queue_at o w h image t.turns).keys k 0) t₀ L K B E Q M S' t₁.n t₁.m marks
       out =
-          subst (λ x. Carried (w * h) (put_out k s) (set q.keys k 0) t₀ L K B W₁ x.n x.m marks) (sym P.turns)
-          (subst (λ x. Carried (w * h) (put_out k s) (set q.keys k 0) t₀ L K B x t.n (t.m + 1) marks) (sym P.work) (carried-put X.carried k can-put.few))
+          subst (λ x. Carried (w * h) (put_out k s) (set q.keys k 0) t₀ L K B E Q M S' x.n x.m marks) (sym P.turns)
+          (subst (λ x. Carried (w * h) (put_out k s) (set q.keys k 0) t₀ L K B E Q M x t.n (t.m + 1) marks) (sym P.staged) (carried-put X.carried k can-put.few))
 
-      pub deepen-asks : CanDeepen k near.target L K B (ends_part (w * h + 1) W₁)
-      deepen-asks = can-deepen moment to aim.near-to (unput k out.rep) X.table_fits
-
-      module _ {L' K' B' E' : List ℕ} (M : Deepened k near.target L K B (ends_part (w * h + 1) W₁) L' K' B' E') where
-        dug : Carried (w * h) (deepen_cluster_into false k near.target (queue_at o w h image t.turns).now) (set (queue_at o w h image t.turns).keys k 0) t₀ L' K' B'
-            (with_part W₁ (3 * (w * h + 1)) (5 * (w * h + 1)) E') t₁.n t₁.m marks
+      module _ {L' K' B' E' : List ℕ} (N : Deepened k near.target L K B E L' K' B' E') where
+        dug : Carried (w * h) (deepen_cluster_into false k near.target (queue_at o w h image t.turns).now) (set (queue_at o w h image t.turns).keys k 0) t₀ L' K' B' E' Q M S' t₁.n t₁.m marks
         unfolding put_out deepen_cluster_into
-        dug = carried-ends out (deepened-rep moment to aim.near-to (unput k out.rep) X.table_fits M) (digs false).table refl
+        dug = carried-lists out (deepened-rep moment to aim.near-to X.carried.rep X.table_fits N) (digs false).table refl
 
         dug-visited : (b : Bool) → leb near.count o.hollow_neighbours ≡ b → deepens o w h (queue_at o w h image t.turns).now k near.target ≡ true → marks ≤ t.turns + 1
-            → {r : Turns} {B₂ W₂ W' : List ℕ}
-            → Carried (w * h) (deepen_cluster_into b k near.target (queue_at o w h image t.turns).now) (set (queue_at o w h image t.turns).keys k 0) t₀ L' K' B₂ W₂ t₁.n t₁.m marks
-            → Grown (w * h + 1) near.target t₁ r B₂ W₂ W' → Visited o w h image t₀ L' K' B₂ W' t r k
+            → {r : Turns} {B₂ E₂ Q' : List ℕ}
+            → Carried (w * h) (deepen_cluster_into b k near.target (queue_at o w h image t.turns).now) (set (queue_at o w h image t.turns).keys k 0) t₀ L' K' B₂ E₂ Q M S' t₁.n t₁.m marks
+            → Grown (w * h + 1) near.target t₁ r B₂ Q Q' → Visited o w h image t₀ L' K' B₂ E₂ Q' M S' t r k
         unfolding deepen_cluster_into
         dug-visited b z e l C G = moved (deepen_cluster_into b k to s) (goes_to true e ∙ ap (λ x. deepen_cluster_into x k to s) z) (digs b) (rekey-moved k s (deepen_cluster_into b k to s) q.keys (deepened k to) refl)
             (deepen-largest (area (cluster s k)) k s (going moment) (some-pixels moment) refl to aim.near-to b) l (ap (λ x. x.turns) P.turns) (ap (λ x. x.largest) P.turns) C G
 
-        pub deepened-grows : CanGrow (w * h + 1) t₁.n near.target B' (with_part W₁ (3 * (w * h + 1)) (5 * (w * h + 1)) E')
+        pub deepened-grows : CanGrow (w * h + 1) t₁.n near.target B' Q
         deepened-grows = grow-asks (deepen_cluster_into false k to s) (digs false) dug
 
         pub deepened-visited : leb near.count o.hollow_neighbours ≡ false → deepens o w h (queue_at o w h image t.turns).now k near.target ≡ true → marks ≤ t.turns + 1
-            → {r : Turns} {W' : List ℕ} → Grown (w * h + 1) near.target t₁ r B' (with_part W₁ (3 * (w * h + 1)) (5 * (w * h + 1)) E') W' → Visited o w h image t₀ L' K' B' W' t r k
+            → {r : Turns} {Q' : List ℕ} → Grown (w * h + 1) near.target t₁ r B' Q Q' → Visited o w h image t₀ L' K' B' E' Q' M S' t r k
         deepened-visited z e l G = dug-visited false z e l dug G
 
         -- and becomes a hole child
-        pub hollow-asks : CanHollow (w * h + 1) k near.target B' (ends_part (w * h + 1) (with_part W₁ (3 * (w * h + 1)) (5 * (w * h + 1)) E'))
+        pub hollow-asks : CanHollow (w * h + 1) k near.target B' E'
         hollow-asks = can-hollow moment to aim.near-to dug.rep X.table_fits
 
-        module _ {B₂ E₂ : List ℕ} (H : Hollowed (w * h + 1) k near.target B' (ends_part (w * h + 1) (with_part W₁ (3 * (w * h + 1)) (5 * (w * h + 1)) E')) B₂ E₂) where
-          holed : Carried (w * h) (deepen_cluster_into true k near.target (queue_at o w h image t.turns).now) (set (queue_at o w h image t.turns).keys k 0) t₀ L' K' B₂
-              (with_part (with_part W₁ (3 * (w * h + 1)) (5 * (w * h + 1)) E') (3 * (w * h + 1)) (5 * (w * h + 1)) E₂) t₁.n t₁.m marks
+        module _ {B₂ E₂ : List ℕ} (H : Hollowed (w * h + 1) k near.target B' E' B₂ E₂) where
+          holed : Carried (w * h) (deepen_cluster_into true k near.target (queue_at o w h image t.turns).now) (set (queue_at o w h image t.turns).keys k 0) t₀ L' K' B₂ E₂ Q M S' t₁.n t₁.m marks
           unfolding deepen_cluster_into
-          holed = carried-ends dug (hollowed-rep moment to aim.near-to dug.rep X.table_fits H) ((digs true).table ∙ sym (digs false).table) refl
+          holed = carried-lists dug (hollowed-rep moment to aim.near-to dug.rep X.table_fits H) ((digs true).table ∙ sym (digs false).table) refl
 
-          pub hollowed-grows : CanGrow (w * h + 1) t₁.n near.target B₂ (with_part (with_part W₁ (3 * (w * h + 1)) (5 * (w * h + 1)) E') (3 * (w * h + 1)) (5 * (w * h + 1)) E₂)
+          pub hollowed-grows : CanGrow (w * h + 1) t₁.n near.target B₂ Q
           hollowed-grows = grow-asks (deepen_cluster_into true k to s) (digs true) holed
 
           pub hollowed-visited : leb near.count o.hollow_neighbours ≡ true → deepens o w h (queue_at o w h image t.turns).now k near.target ≡ true → marks ≤ t.turns + 1
-              → {r : Turns} {W' : List ℕ} → Grown (w * h + 1) near.target t₁ r B₂ (with_part (with_part W₁ (3 * (w * h + 1)) (5 * (w * h + 1)) E') (3 * (w * h + 1)) (5 * (w * h + 1)) E₂) W'
-              → Visited o w h image t₀ L' K' B₂ W' t r k
+              → {r : Turns} {Q' : List ℕ} → Grown (w * h + 1) near.target t₁ r B₂ Q Q' → Visited o w h image t₀ L' K' B₂ E₂ Q' M S' t r k
           hollowed-visited z e l G = dug-visited true z e l holed G

@@ -149,19 +149,20 @@ impl<'a> Builder<'a> {
         self.table[layout::SLOT_WIDTH * (f as usize) + layout::MERGED_INTO] = t;
         self.table[layout::SLOT_WIDTH * (t as usize) + layout::DEPTH] = depth + 1;
     }
-}
 
-// f is appended to the hole children of t.
-pub(crate) fn append_hole(table: &mut [u32], ends: &mut [u32], room: u32, f: u32, t: u32)
-    requires { CanHollow room f t table.old ends.old }
-    ensures { Hollowed room f t table.old ends.old
-        table.new ends.new }
-{
-    let b = layout::SLOT_WIDTH * (t as usize);
-    let holes = table[b + layout::NUM_HOLES];
-    let e = (room + t) as usize;
-    let tail = ends[e];
-    ends[e] = f + 1;
-    table[b + layout::NUM_HOLES] = holes + 1;
-    link_hole(table, holes, tail, f, t);
+    // f is appended to the hole children of t.
+    pub(crate) fn append_hole(&mut self, room: u32, f: u32, t: u32)
+        requires { CanHollow room f t self.old.table.now self.old.ends.now }
+        ensures loans { SameLists self.old self.new }
+        ensures lists { (self.new.labels.now ≡ self.old.labels.now) × (self.new.links.now ≡ self.old.links.now) }
+        ensures hollowed { Hollowed room f t self.old.table.now self.old.ends.now self.new.table.now self.new.ends.now }
+    {
+        let b = layout::SLOT_WIDTH * (t as usize);
+        let holes = self.table[b + layout::NUM_HOLES];
+        let e = (room + t) as usize;
+        let tail = self.ends[e];
+        self.ends[e] = f + 1;
+        self.table[b + layout::NUM_HOLES] = holes + 1;
+        link_hole(self.table, holes, tail, f, t);
+    }
 }

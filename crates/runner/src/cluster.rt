@@ -9,60 +9,38 @@ ghost use Rattle.runner.specs.Code.Slots.{sum_at};
 ghost use Rattle.runner.specs.Code.Neighbours.{place_label, diff_from, with_neighbour, Scan, noted, noted_four};
 ghost use Rattle.runner.specs.Code.Neighbours.{Averaged, Notable, Scannable, Found};
 
+use super::builder::Builder;
+use super::input::Input;
+use super::slot;
 use color::Color;
 use image::layout;
 
-// The label of the pixel above p, 0 where there is none; so down, left and right.
-fn up(labels: &[u32], w: u32, p: u32) -> u32
-    requires { p < length labels.now }
-    ensures { result ≡ place_label labels.now (grid.up w p) }
+// The labels up, down, left and right of pixel p, 0 off the image.
+#[tactic(auto, unfolding(rules::specs::Grid::sides))]
+fn four_labels(b: &Builder, input: &Input, p: u32) -> [u32; 4]
+    requires { (p < input.now.w * input.now.h) × (input.now.w * input.now.h ≤ length b.now.labels.now) }
+    ensures { result ≡ map (place_label b.now.labels.now) (sides input.now.w input.now.h p) }
 {
-    if w <= p { labels[(p - w) as usize] } else { 0 }
-}
-
-fn down(labels: &[u32], w: u32, h: u32, p: u32) -> u32
-    requires { (p < w * h) × (w * h ≤ length labels.now) × (w * h ≤ count_bound) }
-    ensures { result ≡ place_label labels.now (grid.down w h p) }
-{
-    if p + w < w * h {
-        labels[(p + w) as usize]
-    } else {
-        0
-    }
-}
-
-fn left(labels: &[u32], w: u32, p: u32) -> u32
-    requires { (0 < w) × (p < length labels.now) }
-    ensures { result ≡ place_label labels.now (grid.left w p) }
-{
-    if 0 < p % w {
-        labels[(p - 1) as usize]
-    } else {
-        0
-    }
-}
-
-fn right(labels: &[u32], w: u32, h: u32, p: u32) -> u32
-    requires { (0 < w) × (p < w * h) × (w * h ≤ length labels.now) × (w * h ≤ count_bound) }
-    ensures { result ≡ place_label labels.now (grid.right w p) }
-{
-    if p % w + 1 < w {
-        labels[(p + 1) as usize]
-    } else {
-        0
-    }
-}
-
-// The labels up, down, left and right of pixel p, 0 where there is none.
-pub(crate) fn four_labels(labels: &[u32], w: u32, h: u32, p: u32) -> [u32; 4]
-    requires { (0 < w) × (p < w * h) × (w * h ≤ length labels.now) × (w * h ≤ count_bound) }
-    ensures { result ≡ map (place_label labels.now) (sides w h p) }
-{
-    let a = up(labels, w, p);
-    let b = down(labels, w, h, p);
-    let c = left(labels, w, p);
-    let d = right(labels, w, h, p);
-    [a, b, c, d]
+    let (w, h) = (input.w, input.h);
+    let x = p % w;
+    [
+        if w <= p {
+            b.labels[(p - w) as usize]
+        } else {
+            0
+        },
+        if p + w < w * h {
+            b.labels[(p + w) as usize]
+        } else {
+            0
+        },
+        if 0 < x { b.labels[(p - 1) as usize] } else { 0 },
+        if x + 1 < w {
+            b.labels[(p + 1) as usize]
+        } else {
+            0
+        },
+    ]
 }
 
 // The average of the sum of cluster k.
@@ -70,20 +48,13 @@ pub(crate) fn color(table: &[u32], k: u32) -> Color
     requires { Averaged table.now k }
     ensures { color_of result ≡ average (sum_at table.now k) }
 {
-    let s = color::sum_in(table, layout::SLOT_WIDTH * (k as usize) + layout::SUM_R);
-    let Some(c) = s.average() else {
-        return Color {
-            r: 0,
-            g: 0,
-            b: 0,
-            a: 0,
-        };
-    };
-    c
+    color::sum_in(table, layout::SLOT_WIDTH * (k as usize) + layout::SUM_R)
+        .average()
+        .unwrap()
 }
 
 // The neighbours found so far: how many, the nearest, and its difference.
-#[derive(Clone, Copy)]
+#[derive(Clone, Copy, Default)]
 pub(crate) struct Nearest {
     pub(crate) count: u32,
     pub(crate) target: u32,
@@ -92,148 +63,112 @@ pub(crate) struct Nearest {
 
 impl Nearest {
     // With one more neighbour, of number l and difference d.
+    #[tactic(auto, unfolding(crate::specs::Code::Neighbours::with_neighbour))]
     fn with(self, l: u32, d: u32) -> Nearest
         requires { self.count < 4294967295 }
         ensures { result ≡ with_neighbour self l d }
     {
         let n = self.count + 1;
-        if (self.count == 0) | (d < self.diff) | ((d == self.diff) & (l < self.target)) {
+        if self.count == 0 || d < self.diff || (d == self.diff && l < self.target) {
             return Nearest {
                 count: n,
                 target: l,
                 diff: d,
             };
         }
-        Nearest {
-            count: n,
-            target: self.target,
-            diff: self.diff,
-        }
+        Nearest { count: n, ..self }
     }
+}
+
+// A scan for neighbours: its number, the label of the cluster, and the cluster's colour.
+#[derive(Clone, Copy)]
+struct Visit {
+    number: u32,
+    own: u32,
+    mine: Color,
 }
 
 // The label l counts as a neighbour if it is neither 0 nor own, nor marked in this visit.
-fn note(
-    table: &[u32],
-    marks: &mut [u32],
-    visit: u32,
-    own: u32,
-    mine: Color,
-    l: u32,
-    found: Nearest,
-) -> Nearest
-    requires notable { l ≢ 0 → Notable table.now (length marks.old) l }
+#[tactic(auto, unfolding(crate::specs::Code::Neighbours::noted))]
+fn note(b: &Builder, marks: &mut [u32], v: Visit, l: u32, found: Nearest) -> Nearest
+    requires notable { l ≢ 0 → Notable b.now.table.now (length marks.old) l }
     requires count_bound { found.count < 4294967295 }
     ensures { record { marks = marks.new; nearest = result }
-        ≡ noted (diff_from table.now (color_of mine)) own visit l
+        ≡ noted (diff_from b.now.table.now (color_of v.mine)) v.own v.number l
         (record { marks = marks.old; nearest = found }) }
 {
-    if (l == 0) | (l == own) {
+    if l == 0 || l == v.own || marks[l as usize] == v.number {
         return found;
     }
-    if marks[l as usize] == visit {
-        return found;
-    }
-    marks[l as usize] = visit;
-    found.with(l, color::color_diff(mine, color(table, l)))
-}
-
-// The four labels around a pixel, in turn.
-fn note_four(
-    table: &[u32],
-    marks: &mut [u32],
-    visit: u32,
-    own: u32,
-    mine: Color,
-    four: [u32; 4],
-    found: Nearest,
-) -> Nearest
-    requires by_index { (i : ℕ) → i < 4 → get_or four i 0 ≢ 0 → Notable table.now (length marks.old) (get_or four i 0) }
-    requires count_bound { found.count + 4 ≤ 4294967295 }
-    ensures { record { marks = marks.new; nearest = result }
-        ≡ noted_four (diff_from table.now (color_of mine)) own visit four
-        (record { marks = marks.old; nearest = found }) }
-{
-    let a = note(table, marks, visit, own, mine, four[0], found);
-    let b = note(table, marks, visit, own, mine, four[1], a);
-    let c = note(table, marks, visit, own, mine, four[2], b);
-    note(table, marks, visit, own, mine, four[3], c)
+    marks[l as usize] = v.number;
+    found.with(l, color::color_diff(v.mine, color(b.table, l)))
 }
 
 // Whether the pixels before and after p, and those a row above and below it, are all of the cluster: then p has no
 // neighbour to note, wherever the image ends. It saves the division by w for most pixels.
-fn is_inside(labels: &[u32], w: u32, own: u32, p: u32) -> bool
-    requires { (0 < w) × (p < length labels.now) }
-    ensures { result ≡ true → (h : ℕ) (key : ℕ → ℕ) (visit : ℕ) (s : Scan)
-        → noted_four key own visit (map (place_label labels.now) (sides w h p)) s ≡ s }
+fn is_inside(b: &Builder, input: &Input, own: u32, p: u32) -> bool
+    requires { p < length b.now.labels.now }
+    ensures { result ≡ true → (key : ℕ → ℕ) (visit : ℕ) (s : Scan)
+        → noted_four key own visit
+        (map (place_label b.now.labels.now) (sides input.now.w input.now.h p)) s ≡ s }
 {
     let i = p as usize;
-    let row = w as usize;
-    if (i < row) | (labels.len() <= i + row) {
+    let row = input.w as usize;
+    if i < row || b.labels.len() <= i + row {
         return false;
     }
-    (labels[i - row] == own)
-        & (labels[i - 1] == own)
-        & (labels[i + 1] == own)
-        & (labels[i + row] == own)
+    (b.labels[i - row] == own)
+        & (b.labels[i - 1] == own)
+        & (b.labels[i + 1] == own)
+        & (b.labels[i + row] == own)
 }
 
 // The labels around pixel p, in turn.
-fn look(
-    labels: &[u32],
-    table: &[u32],
-    marks: &mut [u32],
-    w: u32,
-    h: u32,
-    visit: u32,
-    own: u32,
-    mine: Color,
-    p: u32,
-    found: Nearest,
-) -> Nearest
-    requires w_nonzero { (0 < w) × (p < w * h) × (w * h ≤ length labels.now) × (w * h ≤ count_bound) }
-    requires by_index { (i : ℕ) → i < 4 → get_or (map (place_label labels.now) (sides w h p)) i 0 ≢ 0
-        → Notable table.now (length marks.old) (get_or (map (place_label labels.now) (sides w h p)) i 0) }
+fn look(b: &Builder, marks: &mut [u32], input: &Input, v: Visit, p: u32, found: Nearest) -> Nearest
+    requires pixel { (p < input.now.w * input.now.h) × (input.now.w * input.now.h ≤ length b.now.labels.now) }
+    requires notable { (i : ℕ) → i < 4
+        → get_or (map (place_label b.now.labels.now) (sides input.now.w input.now.h p)) i 0 ≢ 0
+        → Notable b.now.table.now (length marks.old)
+        (get_or (map (place_label b.now.labels.now) (sides input.now.w input.now.h p)) i 0) }
     requires count_bound { found.count + 4 ≤ 4294967295 }
     ensures { record { marks = marks.new; nearest = result }
-        ≡ noted_four (diff_from table.now (color_of mine)) own visit
-        (map (place_label labels.now) (sides w h p)) (record { marks = marks.old; nearest = found }) }
+        ≡ noted_four (diff_from b.now.table.now (color_of v.mine)) v.own v.number
+        (map (place_label b.now.labels.now) (sides input.now.w input.now.h p))
+        (record { marks = marks.old; nearest = found }) }
 {
-    if is_inside(labels, w, own, p) {
+    if is_inside(b, input, v.own, p) {
         return found;
     }
-    let four = four_labels(labels, w, h, p);
-    note_four(table, marks, visit, own, mine, four, found)
+    let mut near = found;
+    for label in four_labels(b, input, p) {
+        near = note(b, marks, v, label, near);
+    }
+    near
 }
 
 // The neighbours of cluster k, each marked with the number of the visit.
 pub(crate) fn neighbours(
-    labels: &[u32],
-    links: &[u32],
-    table: &[u32],
+    b: &Builder,
     marks: &mut [u32],
-    w: u32,
-    h: u32,
+    input: &Input,
     k: u32,
     visit: u32,
 ) -> Nearest
-    requires { Scannable labels.now links.now table.now marks.old w h k visit }
-    ensures { Found labels.now links.now table.now w h k visit result
+    requires { Scannable b.now.labels.now b.now.links.now b.now.table.now marks.old input.now.w input.now.h k visit }
+    ensures { Found b.now.labels.now b.now.links.now b.now.table.now input.now.w input.now.h k visit result
         marks.new }
 {
-    let b = layout::SLOT_WIDTH * (k as usize);
-    let mine = color(table, k);
-    let mut at = table[b + layout::FIRST_PIXEL];
-    let count = table[b + layout::PIXEL_COUNT];
-    let mut found = Nearest {
-        count: 0,
-        target: 0,
-        diff: 0,
+    let v = Visit {
+        number: visit,
+        own: k,
+        mine: color(b.table, k),
     };
-    for _ in 0..count {
+    let mut at = slot::first_pixel(b.table, k);
+    let mut found = Nearest::default();
+    for _ in 0..b.count_of(k) {
         let p = at - 1;
-        found = look(labels, table, marks, w, h, visit, k, mine, p, found);
-        at = links[p as usize];
+        found = look(b, marks, input, v, p, found);
+        at = b.links[p as usize];
     }
     found
 }

@@ -1,74 +1,67 @@
 // The boundary test of a cluster, after geometry.rs. With a smallest area of 1 or more the boundary is smaller than the
 // area exactly if some pixel of the list has its four neighbours in the list, so nothing is counted and the scan stops
 // at the first such pixel.
-ghost use Rattle.std.specs.Prelude.{◌≡◌, ◌*◌, ◌≤◌, ◌<◌, T, length, get_or};
+ghost use Rattle.std.specs.Prelude.{◌≡◌, ◌+◌, ◌*◌, ◌≤◌, ◌<◌, T, length, get_or};
 ghost use Rattle.rules.specs.Grid.{sides};
-ghost use Rattle.rules.specs.Layout.{walk};
+ghost use Rattle.rules.specs.Layout.{walk, slot_width, first_pixel_place, InTable};
 ghost use Rattle.rules.specs.Paint.{reads};
 ghost use Rattle.rules.specs.Stage2.{all_in};
-ghost use Rattle.rules.specs.Code.Bounds.{count_bound};
 ghost use Rattle.runner.specs.Types.{config_of};
 ghost use Rattle.runner.specs.Code.Interior.{in_list, some_inside};
 
-use super::keying;
-use crate::RunnerConfig;
+use super::builder::Builder;
+use super::input::Input;
+use super::queue::Entry;
+use super::{keying, slot};
 
 // Whether pixel q is in the list of cluster k, by its label.
-fn in_list(image: &[u8], labels: &[u32], o: RunnerConfig, k: u32, q: u32) -> bool
-    requires { (q < length labels.now) × (4 * length labels.now ≤ length image.now) }
-    ensures { result ≡ in_list (config_of o) image.now labels.now k q }
+fn in_list(b: &Builder, input: &Input, k: u32, q: u32) -> bool
+    requires { (q < input.now.w * input.now.h) × (input.now.w * input.now.h ≡ length b.now.labels.now) }
+    ensures { result ≡ in_list (config_of input.now.o) input.now.image.now b.now.labels.now k q }
 {
-    labels[q as usize] == k && !keying::is_discarded(image, o, q)
+    b.labels[q as usize] == k && !keying::is_discarded(input.image, input.o, q)
 }
 
 // Whether pixel p has its four neighbours in the list of cluster k.
 #[tactic(auto, unfolding(rules::specs::Grid::sides, rules::specs::Stage2::all_in))]
-fn surrounded(image: &[u8], labels: &[u32], o: RunnerConfig, w: u32, h: u32, k: u32, p: u32) -> bool
-    requires { (p < w * h) × (w * h ≡ length labels.now) × (4 * length labels.now ≤ length image.now)
-        × (w * h ≤ count_bound) × (0 < w) }
-    ensures { result ≡ all_in (in_list (config_of o) image.now labels.now k) (sides w h p) }
+fn surrounded(b: &Builder, input: &Input, k: u32, p: u32) -> bool
+    requires { (p < input.now.w * input.now.h) × (input.now.w * input.now.h ≡ length b.now.labels.now) }
+    ensures { result
+        ≡ all_in (in_list (config_of input.now.o) input.now.image.now b.now.labels.now k)
+        (sides input.now.w input.now.h p) }
 {
-    if p < w || w * h <= p + w {
-        return false;
-    }
+    let (w, h) = (input.w, input.h);
     let x = p % w;
-    if x == 0 || w <= x + 1 {
-        return false;
-    }
-    let up = in_list(image, labels, o, k, p - w);
-    let down = in_list(image, labels, o, k, p + w);
-    let left = in_list(image, labels, o, k, p - 1);
-    let right = in_list(image, labels, o, k, p + 1);
-    up & down & left & right
+    w <= p
+        && p + w < w * h
+        && 0 < x
+        && x + 1 < w
+        && in_list(b, input, k, p - w)
+        && in_list(b, input, k, p + w)
+        && in_list(b, input, k, p - 1)
+        && in_list(b, input, k, p + 1)
 }
 
-// Whether some pixel of the list of count pixels from first has its four neighbours in the list of cluster k.
-#[tactic(auto, unfolding(crate::specs::Code::Interior::some_inside), using(rules::proofs::Walks::walk_none))]
-pub(crate) fn has_interior(
-    image: &[u8],
-    labels: &[u32],
-    links: &[u32],
-    o: RunnerConfig,
-    w: u32,
-    h: u32,
-    k: u32,
-    first: u32,
-    count: u32,
-) -> bool
-    requires h_value { (w * h ≡ length labels.now) × (w * h ≤ length links.now)
-        × (4 * length labels.now ≤ length image.now) × (w * h ≤ count_bound) × (0 < w) }
-    requires t { T (reads (w * h) links.now first count) }
-    ensures { result
-        ≡ some_inside (config_of o)
-        image.now labels.now w h k (walk (λ p. get_or links.now p 0) first count) }
+// Whether some pixel of the list of an entry's cluster has its four neighbours in that list.
+#[tactic(auto, unfolding(crate::specs::Code::Interior::some_inside), using(rules::proofs::Walks::walk_none, rules::proofs::Walks::step))]
+pub(crate) fn has_interior(b: &Builder, input: &Input, e: Entry) -> bool
+    requires slot { InTable e.slot b.now.table.now }
+    requires pixels { (input.now.w * input.now.h ≡ length b.now.labels.now) × (input.now.w * input.now.h ≤ length b.now.links.now) }
+    requires list { T
+        (reads (input.now.w * input.now.h) b.now.links.now (get_or b.now.table.now (slot_width * e.slot + first_pixel_place) 0)
+        e.key) }
+    ensures { let p = input.now in result
+        ≡ some_inside (config_of p.o) p.image.now b.now.labels.now p.w p.h e.slot
+        (walk (λ p. get_or b.now.links.now p 0)
+        (get_or b.now.table.now (slot_width * e.slot + first_pixel_place) 0) e.key) }
 {
-    let mut at = first;
-    for _ in 0..count {
+    let mut at = slot::first_pixel(b.table, e.slot);
+    for _ in 0..e.key {
         let p = at - 1;
-        if surrounded(image, labels, o, w, h, k, p) {
+        if surrounded(b, input, e.slot, p) {
             return true;
         }
-        at = links[p as usize];
+        at = b.links[p as usize];
     }
     false
 }

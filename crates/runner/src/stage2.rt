@@ -1,25 +1,32 @@
 // Stage 2, merges and the output order, after `stage_2` of builder.rs.
-//
-// The work buffer has four parts, for room = w × h + 1 slots: the queue (3 × room), the ends of the lists (2 × room),
-// the marks of the neighbours (room), and the outputs before any is dropped (2 × room).
-ghost use Rattle.std.specs.Prelude.{◌≡◌, true, List, ℕ, ◌+◌, ◌*◌, ◌≤◌, ◌<◌, T, length};
+ghost use Rattle.std.specs.Prelude.{◌≡◌, true, List, ℕ, ◌+◌, ◌*◌, ◌≤◌, ◌<◌, T, length, get_or};
 ghost use Rattle.rules.specs.Color;
 ghost use Rattle.rules.specs.Paint.{reads};
 ghost use Rattle.rules.specs.Run.{stage1, stage2};
-ghost use Rattle.rules.specs.Layout.{slot_width, InTable};
+ghost use Rattle.rules.specs.Layout.{slot_width, first_pixel_place, InTable};
 ghost use Rattle.rules.specs.Code.Bounds.{count_bound};
 ghost use Rattle.runner.specs.Types.{config_of};
-ghost use Rattle.runner.specs.Code.Queue.{queue_key};
+ghost use Rattle.runner.specs.Code.Lists.{of_work, of_input, SameLists, SameWork};
+ghost use Rattle.runner.specs.Code.Queue.{queue_key, Sized, Tree, NextPending};
 ghost use Rattle.runner.specs.Code.Stage2.{Prepared, PreparedSlot, patch_good_at, deepens_at, CanPut, Put, goes_out};
-ghost use Rattle.runner.specs.Code.Stage2.{CanGrow};
-ghost use Rattle.runner.specs.Code.Ops.{CanMerge, Merged, CanDeepen, Deepened};
-ghost use Rattle.runner.specs.Code.Stage2.{Grown, Between, Chosen, Visiting, Aimed, Deepening, Visited, Entered};
-ghost use Rattle.runner.specs.Code.Stage2.{CanStage2, Staged};
+ghost use Rattle.runner.specs.Code.Stage2.{CanGrow, Grown, Between, Chosen, Visiting, Aimed, Deepening, Visited};
+ghost use Rattle.runner.specs.Code.Stage2.{Entered, Staged};
 
 use super::builder::Builder;
 use super::cluster::Nearest;
-use super::{builder, cluster, geometry, keying, queue, slot};
+use super::input::Input;
+use super::queue::Entry;
+use super::{cluster, geometry, keying, queue, slot};
 use crate::{HIERARCHICAL_MAX, RunnerConfig};
+
+// What stage 2 has beside the lists, for room = w × h + 1 slots: the queue of pending slots (3 × room), the marks of the
+// neighbours (room), and the outputs before any is dropped (2 × room).
+#[derive(Drop)]
+pub(crate) struct Work<'a> {
+    pub(crate) queue: &'a mut [u32],
+    pub(crate) marks: &'a mut [u32],
+    pub(crate) staged: &'a mut [u32],
+}
 
 // What stage 2 carries from turn to turn: slots, outputs, turns made, and the largest pixel count.
 #[derive(Clone, Copy)]
@@ -28,6 +35,17 @@ pub(crate) struct Turns {
     pub(crate) m: u32,
     pub(crate) turns: u32,
     pub(crate) largest: u32,
+}
+
+impl<'a> Work<'a> {
+    // The pending slot with the least key, of several the least slot; None where no slot is pending.
+    fn first_pending(&self, n: u32, room: usize) -> Option<Entry>
+        requires sized { Sized n room (length self.now.queue.now) }
+        requires tree { Tree self.now.queue.now n room }
+        ensures { NextPending self.now.queue.now n room result }
+    {
+        queue::first(self.queue, n as usize, room)
+    }
 }
 
 // Each residue is set to its sum, and each slot with pixels is pending; answers the largest pixel count.
@@ -69,352 +87,188 @@ fn exceeds(d: u32, z: i32) -> bool
     z < d as i32
 }
 
-// Whether cluster k, of so many pixels from first, may stay a patch, after `patch_good` of runner.rs: a boundary
-// smaller than the area is told by one pixel inside.
-fn patch_good(
-    image: &[u8],
-    labels: &[u32],
-    links: &[u32],
-    o: RunnerConfig,
-    w: u32,
-    h: u32,
-    k: u32,
-    first: u32,
-    area: u32,
-) -> bool
-    requires h_value { (w * h ≡ length labels.now) × (w * h ≤ length links.now)
-        × (4 * length labels.now ≤ length image.now) × (w * h ≤ count_bound) × (0 < w) }
-    requires t { T (reads (w * h) links.now first area) }
-    ensures { result
-        ≡ patch_good_at (config_of o)
-        image.now labels.now links.now w h k first area }
+// Whether the cluster of an entry may stay a patch, after `patch_good` of runner.rs: a boundary smaller than the area is
+// told by one pixel inside.
+#[tactic(auto, unfolding(crate::specs::Code::Stage2::patch_good_at))]
+fn patch_good(b: &Builder, input: &Input, e: Entry) -> bool
+    requires slot { InTable e.slot b.now.table.now }
+    requires pixels { (input.now.w * input.now.h ≡ length b.now.labels.now) × (input.now.w * input.now.h ≤ length b.now.links.now) }
+    requires list { T
+        (reads (input.now.w * input.now.h) b.now.links.now (get_or b.now.table.now (slot_width * e.slot + first_pixel_place) 0)
+        e.key) }
+    ensures { let p = input.now in result
+        ≡ patch_good_at (config_of p.o) p.image.now b.now.labels.now b.now.links.now p.w p.h e.slot
+        (get_or b.now.table.now (slot_width * e.slot + first_pixel_place) 0) e.key }
 {
-    if !((o.good_min_area < area) & (area < o.good_max_area)) {
-        return false;
-    }
-    if o.good_min_area == 0 {
-        return true;
-    }
-    geometry::has_interior(image, labels, links, o, w, h, k, first, area)
+    let o = &input.o;
+    o.good_min_area < e.key
+        && e.key < o.good_max_area
+        && (o.good_min_area == 0 || geometry::has_interior(b, input, e))
 }
 
 // Whether it deepens into a neighbour of difference diff.
-fn deepens(
-    image: &[u8],
-    labels: &[u32],
-    links: &[u32],
-    o: RunnerConfig,
-    w: u32,
-    h: u32,
-    k: u32,
-    first: u32,
-    area: u32,
-    diff: u32,
-) -> bool
-    requires h_value { (w * h ≡ length labels.now) × (w * h ≤ length links.now)
-        × (4 * length labels.now ≤ length image.now) × (w * h ≤ count_bound) × (0 < w) }
-    requires t { T (reads (w * h) links.now first area) }
+#[tactic(auto, unfolding(crate::specs::Code::Stage2::deepens_at))]
+fn deepens(b: &Builder, input: &Input, e: Entry, diff: u32) -> bool
+    requires slot { InTable e.slot b.now.table.now }
+    requires pixels { (input.now.w * input.now.h ≡ length b.now.labels.now) × (input.now.w * input.now.h ≤ length b.now.links.now) }
+    requires list { T
+        (reads (input.now.w * input.now.h) b.now.links.now (get_or b.now.table.now (slot_width * e.slot + first_pixel_place) 0)
+        e.key) }
     requires diff_bound { diff < 2147483648 }
-    ensures { result
-        ≡ deepens_at (config_of o)
-        image.now labels.now links.now w h k first area diff }
+    ensures { let p = input.now in result
+        ≡ deepens_at (config_of p.o) p.image.now b.now.labels.now b.now.links.now p.w p.h e.slot
+        (get_or b.now.table.now (slot_width * e.slot + first_pixel_place) 0) e.key diff }
 {
-    if !((o.hierarchical == HIERARCHICAL_MAX) & exceeds(diff, o.deepen_diff)) {
-        return false;
-    }
-    patch_good(image, labels, links, o, w, h, k, first, area)
+    let o = &input.o;
+    o.hierarchical == HIERARCHICAL_MAX && exceeds(diff, o.deepen_diff) && patch_good(b, input, e)
 }
 
 // Cluster k is put out.
-fn put_out(work: &mut [u32], room: usize, t: Turns, k: u32) -> Turns
-    requires { CanPut room t.m work.old }
-    ensures { Put true room k t result work.old work.new }
+fn put_out(staged: &mut [u32], t: Turns, k: u32) -> Turns
+    requires { CanPut t.m staged.old }
+    ensures { Put true k t result staged.old staged.new }
 {
-    let m = t.m;
-    work[6 * room + (m as usize)] = k;
-    Turns {
-        n: t.n,
-        m: m + 1,
-        turns: t.turns,
-        largest: t.largest,
-    }
+    staged[t.m as usize] = k;
+    Turns { m: t.m + 1, ..t }
 }
 
 // The target's new pixel count: it is pending again, and may be the largest.
-fn grown(table: &[u32], work: &mut [u32], room: usize, t: Turns, to: u32) -> Turns
-    requires { CanGrow room t.n to table.now work.old }
-    ensures { Grown room to t result table.now work.old work.new }
+fn grown(b: &Builder, queue: &mut [u32], input: &Input, t: Turns, to: u32) -> Turns
+    requires { CanGrow (input.now.w * input.now.h + 1) t.n to b.now.table.now queue.old }
+    ensures { Grown (input.now.w * input.now.h + 1) to t result b.now.table.now queue.old queue.new }
 {
-    let count = slot::count_of(table, to);
-    queue::set_key(
-        &mut work[0..3 * room],
-        t.n as usize,
-        room,
-        to as usize,
-        count,
-    );
+    let room = (input.w * input.h) as usize + 1;
+    let count = b.count_of(to);
+    queue::set_key(queue, t.n as usize, room, to as usize, count);
     Turns {
-        n: t.n,
-        m: t.m,
-        turns: t.turns,
         largest: t.largest.max(count),
+        ..t
     }
-}
-
-// A plain merge of f into t, over lists that are lent one by one.
-fn merge_cluster_into(
-    labels: &mut [u32],
-    links: &mut [u32],
-    table: &mut [u32],
-    ends: &mut [u32],
-    f: u32,
-    t: u32,
-)
-    requires { CanMerge f t labels.old links.old table.old ends.old }
-    ensures { Merged f t labels.old links.old table.old ends.old
-        labels.new links.new table.new ends.new }
-{
-    let mut b = Builder {
-        labels,
-        links,
-        table,
-        ends,
-    };
-    b.merge_cluster_into(f, t);
-}
-
-// A deepening one.
-fn deepen_cluster_into(
-    labels: &mut [u32],
-    links: &mut [u32],
-    table: &mut [u32],
-    ends: &mut [u32],
-    f: u32,
-    t: u32,
-)
-    requires { CanDeepen f t labels.old links.old table.old ends.old }
-    ensures { Deepened f t labels.old links.old table.old ends.old
-        labels.new links.new table.new ends.new }
-{
-    let mut b = Builder {
-        labels,
-        links,
-        table,
-        ends,
-    };
-    b.deepen_cluster_into(f, t);
 }
 
 // A deepening merge of k into the nearest neighbour.
 fn deepen_into_nearest(
-    labels: &mut [u32],
-    links: &mut [u32],
-    table: &mut [u32],
-    work: &mut [u32],
-    o: RunnerConfig,
-    room: u32,
+    b: &mut Builder,
+    work: &mut Work,
+    input: &Input,
     t: Turns,
     k: u32,
     near: Nearest,
 ) -> Turns
-    requires { (w : ℕ) × (h : ℕ) × (image : List ℕ) × (t₀ : List ℕ) × (a : ℕ)
-        × Deepening (config_of o) w h image t₀ labels.old links.old table.old work.old t room k a near }
-    ensures { (w h : ℕ) (image t₀ : List ℕ) (a : ℕ)
-        → Deepening (config_of o) w h image t₀
-        labels.old links.old table.old work.old t room k a near
-        → Visited (config_of o) w h image t₀
-        labels.new links.new table.new work.new t result k }
+    requires { (t₀ : List ℕ) × (a : ℕ) × of_work (of_input Deepening input.now t₀) b.old work.old t k a near }
+    ensures lists { SameLists b.old b.new }
+    ensures work { SameWork work.old work.new }
+    ensures visited { (t₀ : List ℕ) (a : ℕ) → of_work (of_input Deepening input.now t₀) b.old work.old t k a near
+        → of_work (of_input Visited input.now t₀) b.new work.new t result k }
 {
-    let r = room as usize;
     let to = near.target;
-    let put = put_out(work, r, t, k);
-    deepen_cluster_into(labels, links, table, &mut work[3 * r..5 * r], k, to);
-    if near.count <= o.hollow_neighbours {
-        builder::append_hole(table, &mut work[3 * r..5 * r], room, k, to);
-        return grown(table, work, r, put, to);
+    let put = put_out(work.staged, t, k);
+    b.deepen_cluster_into(k, to);
+    if near.count <= input.o.hollow_neighbours {
+        b.append_hole(input.w * input.h + 1, k, to);
+        return grown(b, work.queue, input, put, to);
     }
-    grown(table, work, r, put, to)
+    grown(b, work.queue, input, put, to)
 }
 
-// Cluster k, of so many pixels, goes into the nearest of its neighbours.
+// The cluster of an entry goes into the nearest of its neighbours.
 fn merge_into_nearest(
-    image: &[u8],
-    labels: &mut [u32],
-    links: &mut [u32],
-    table: &mut [u32],
-    work: &mut [u32],
-    o: RunnerConfig,
-    w: u32,
-    h: u32,
-    room: u32,
+    b: &mut Builder,
+    work: &mut Work,
+    input: &Input,
     t: Turns,
-    k: u32,
-    area: u32,
+    e: Entry,
     near: Nearest,
 ) -> Turns
-    requires room_value { room ≡ w * h + 1 }
-    requires by_index { (t₀ : List ℕ)
-        × Visiting (config_of o) w h image.now t₀ labels.old links.old table.old work.old t k area
-        (t.turns + 1) }
-    requires aimed { Aimed (config_of o) w h image.now t.turns k near }
-    ensures { (t₀ : List ℕ)
-        → Visiting (config_of o) w h
-        image.now t₀ labels.old links.old table.old work.old t k
-        area (t.turns + 1)
-        → Visited (config_of o) w h
-        image.now t₀ labels.new links.new table.new work.new t result
-        k }
+    requires by_index { (t₀ : List ℕ) × of_work (of_input Visiting input.now t₀) b.old work.old t e.slot e.key (t.turns + 1) }
+    requires aimed { of_input Aimed input.now t.turns e.slot near }
+    ensures lists { SameLists b.old b.new }
+    ensures work { SameWork work.old work.new }
+    ensures visited { (t₀ : List ℕ)
+        → of_work (of_input Visiting input.now t₀) b.old work.old t e.slot e.key (t.turns + 1)
+        → of_work (of_input Visited input.now t₀) b.new work.new t result e.slot }
 {
-    let r = room as usize;
-    let first = slot::first_pixel(table, k);
-    if deepens(image, labels, links, o, w, h, k, first, area, near.diff) {
-        return deepen_into_nearest(labels, links, table, work, o, room, t, k, near);
+    if deepens(b, input, e, near.diff) {
+        return deepen_into_nearest(b, work, input, t, e.slot, near);
     }
-    let to = near.target;
-    merge_cluster_into(labels, links, table, &mut work[3 * r..5 * r], k, to);
-    grown(table, work, r, t, to)
+    b.merge_cluster_into(e.slot, near.target);
+    grown(b, work.queue, input, t, near.target)
 }
 
 // A cluster without neighbours is put out if none is larger, or if keying is on with Discard; else it is passed over.
-fn isolated(work: &mut [u32], o: RunnerConfig, room: usize, t: Turns, k: u32, area: u32) -> Turns
-    requires { CanPut room t.m work.old }
-    ensures { Put (goes_out (config_of o) t.largest area) room k t result work.old work.new }
+#[tactic(auto, unfolding(rules::specs::Color::discards))]
+fn isolated(staged: &mut [u32], o: RunnerConfig, t: Turns, e: Entry) -> Turns
+    requires { CanPut t.m staged.old }
+    ensures { Put (goes_out (config_of o) t.largest e.key) e.slot t result staged.old staged.new }
 {
-    if (t.largest <= area) | (keying::keying_on(o) & keying::is_discard(o)) {
-        return put_out(work, room, t, k);
+    if t.largest <= e.key || (keying::keying_on(o) && keying::is_discard(o)) {
+        put_out(staged, t, e.slot)
+    } else {
+        t
     }
-    t
 }
 
-// Slot k, of so many pixels, is visited. A cluster of all pixels has no neighbour, and its list need not be read.
-fn visit(
-    image: &[u8],
-    labels: &mut [u32],
-    links: &mut [u32],
-    table: &mut [u32],
-    work: &mut [u32],
-    o: RunnerConfig,
-    w: u32,
-    h: u32,
-    room: u32,
-    t: Turns,
-    k: u32,
-    area: u32,
-) -> Turns
-    requires room_value { room ≡ w * h + 1 }
-    requires by_index { (t₀ : List ℕ)
-        × Visiting (config_of o) w h image.now t₀ labels.old links.old table.old work.old t k area t.turns }
-    ensures { (t₀ : List ℕ)
-        → Visiting (config_of o) w h
-        image.now t₀ labels.old links.old table.old work.old t k
-        area t.turns
-        → Visited (config_of o) w h
-        image.now t₀ labels.new links.new table.new work.new t result
-        k }
+// The slot of an entry is visited. A cluster of all pixels has no neighbour, and its list need not be read.
+fn visit(b: &mut Builder, work: &mut Work, input: &Input, t: Turns, e: Entry) -> Turns
+    requires { (t₀ : List ℕ) × of_work (of_input Visiting input.now t₀) b.old work.old t e.slot e.key t.turns }
+    ensures lists { SameLists b.old b.new }
+    ensures work { SameWork work.old work.new }
+    ensures visited { (t₀ : List ℕ) → of_work (of_input Visiting input.now t₀) b.old work.old t e.slot e.key t.turns
+        → of_work (of_input Visited input.now t₀) b.new work.new t result e.slot }
 {
-    let r = room as usize;
-    if o.hierarchical < area {
-        return put_out(work, r, t, k);
+    if input.o.hierarchical < e.key {
+        return put_out(work.staged, t, e.slot);
     }
-    if area == w * h {
-        return isolated(work, o, r, t, k, area);
+    if e.key == input.w * input.h {
+        return isolated(work.staged, input.o, t, e);
     }
-    let near = cluster::neighbours(
-        labels,
-        links,
-        table,
-        &mut work[5 * r..6 * r],
-        w,
-        h,
-        k,
-        t.turns + 1,
-    );
+    let near = cluster::neighbours(b, work.marks, input, e.slot, t.turns + 1);
     if near.count == 0 {
-        return isolated(work, o, r, t, k, area);
+        return isolated(work.staged, input.o, t, e);
     }
-    merge_into_nearest(
-        image, labels, links, table, work, o, w, h, room, t, k, area, near,
-    )
+    merge_into_nearest(b, work, input, t, e, near)
 }
 
 // One turn: the first pending slot is taken off the queue and visited.
-fn turn(
-    image: &[u8],
-    labels: &mut [u32],
-    links: &mut [u32],
-    table: &mut [u32],
-    work: &mut [u32],
-    o: RunnerConfig,
-    w: u32,
-    h: u32,
-    room: u32,
-    t: Turns,
-    k: u32,
-    area: u32,
-) -> Turns
-    requires room_value { room ≡ w * h + 1 }
-    requires by_index { (t₀ : List ℕ)
-        × Between (config_of o) w h image.now t₀ labels.old links.old table.old work.old t }
-    requires chosen { Chosen (config_of o) w h image.now t.turns k area }
-    ensures { ((t₀ : List ℕ)
-        → Between (config_of o) w h
-        image.now t₀ labels.old links.old table.old work.old t
-        → Between (config_of o) w h
-        image.now t₀ labels.new links.new table.new work.new result)
-        × (result.turns ≡ t.turns + 1) }
+fn turn(b: &mut Builder, work: &mut Work, input: &Input, t: Turns, e: Entry) -> Turns
+    requires by_index { (t₀ : List ℕ) × of_work (of_input Between input.now t₀) b.old work.old t }
+    requires chosen { of_input Chosen input.now t.turns e.slot e.key }
+    ensures lists { SameLists b.old b.new }
+    ensures work { SameWork work.old work.new }
+    ensures turned { (t₀ : List ℕ) → of_work (of_input Between input.now t₀) b.old work.old t
+        → of_work (of_input Between input.now t₀) b.new work.new result }
+    ensures turns { result.turns ≡ t.turns + 1 }
 {
-    let r = room as usize;
-    queue::set_key(
-        &mut work[0..3 * r],
-        t.n as usize,
-        r,
-        k as usize,
-        queue::NONE,
-    );
-    let v = visit(image, labels, links, table, work, o, w, h, room, t, k, area);
+    let room = (input.w * input.h) as usize + 1;
+    queue::set_key(work.queue, t.n as usize, room, e.slot as usize, queue::NONE);
+    let v = visit(b, work, input, t, e);
     Turns {
-        n: v.n,
-        m: v.m,
         turns: v.turns + 1,
-        largest: v.largest,
+        ..v
     }
 }
 
 // Until no slot is pending.
-pub(crate) fn stage_2(
-    image: &[u8],
-    labels: &mut [u32],
-    links: &mut [u32],
-    table: &mut [u32],
-    work: &mut [u32],
-    o: RunnerConfig,
-    w: u32,
-    h: u32,
-    n: u32,
-) -> Turns
-    requires can_stage2 { CanStage2 w h image.now work.old }
-    requires by_index { (t₀ : List ℕ)
-        × Entered (config_of o) w h image.now t₀ labels.old links.old table.old work.old n }
-    ensures { (t₀ : List ℕ)
-        → Entered (config_of o) w h
-        image.now t₀ labels.old links.old table.old work.old n
-        → Staged (w * h) (stage2 (config_of o) w h (stage1 (config_of o) w h image.now)) t₀
-        labels.new links.new table.new work.new result.n result.m }
+pub(crate) fn stage_2(b: &mut Builder, work: &mut Work, input: &Input, n: u32) -> Turns
+    requires { (t₀ : List ℕ) × of_work (of_input Entered input.now t₀) b.old work.old n }
+    ensures lists { SameLists b.old b.new }
+    ensures work { SameWork work.old work.new }
+    ensures staged { let p = input.now in (t₀ : List ℕ) → of_work (of_input Entered p t₀) b.old work.old n
+        → of_work
+        (Staged (p.w * p.h)
+        (stage2 (config_of p.o) p.w p.h (stage1 (config_of p.o) p.w p.h p.image.now)) t₀) b.new work.new result.n result.m }
 {
-    let room = w * h + 1;
-    let r = room as usize;
-    let largest = prepare_stage_2(table, &mut work[0..3 * r], n);
-    queue::build(&mut work[0..3 * r], n as usize, r);
+    let room = (input.w * input.h) as usize + 1;
+    let largest = prepare_stage_2(b.table, work.queue, n);
+    queue::build(work.queue, n as usize, room);
     let mut t = Turns {
         n,
         m: 0,
         turns: 0,
         largest,
     };
-    while let Some(e) = queue::first(&work[0..3 * r], t.n as usize, r) {
-        t = turn(
-            image, labels, links, table, work, o, w, h, room, t, e.slot, e.key,
-        );
+    while let Some(e) = work.first_pending(t.n, room) {
+        t = turn(b, work, input, t, e);
     }
     t
 }

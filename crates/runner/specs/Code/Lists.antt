@@ -1,6 +1,10 @@
--- The four lists of a builder.
+-- The four lists of a builder, the parts of the work buffer beside them, and what a run is given.
 use Rattle.std.specs.Prelude.{◌≡◌, List, ℕ, length}
+use Rattle.rules.specs.Color.{RunnerConfig}
 use Rattle.runner.specs.declared.builder.Builder.{Builder}
+use Rattle.runner.specs.declared.input.Input.{Input}
+use Rattle.runner.specs.declared.stage2.Work.{Work}
+use Rattle.runner.specs.Types.{config_of}
 
 -- f of labels, links, table and ends
 abbrev pub of_lists : {A : Type 1} → (List ℕ → List ℕ → List ℕ → List ℕ → A) → Builder → A
@@ -16,3 +20,20 @@ pub record SameLists (old new : Builder) : Type 0 where
   pub links_long : length new.links.now ≡ length old.links.now
   pub table_long : length new.table.now ≡ length old.table.now
   pub ends_long : length new.ends.now ≡ length old.ends.now
+
+-- f of labels, links, table and ends, queue, marks and staged outputs
+abbrev pub of_work : {A : Type 1} → (List ℕ → List ℕ → List ℕ → List ℕ → List ℕ → List ℕ → List ℕ → A) → Builder → Work → A
+of_work f b w = of_lists f b w.queue.now w.marks.now w.staged.now
+
+-- the same three slices are lent after a call, as long as before
+pub record SameWork (old new : Work) : Type 0 where
+  pub queue : new.queue.ghost_name ≡ old.queue.ghost_name
+  pub marks : new.marks.ghost_name ≡ old.marks.ghost_name
+  pub staged : new.staged.ghost_name ≡ old.staged.ghost_name
+  pub queue_long : length new.queue.now ≡ length old.queue.now
+  pub marks_long : length new.marks.now ≡ length old.marks.now
+  pub staged_long : length new.staged.now ≡ length old.staged.now
+
+-- f of settings, width, height and image
+abbrev pub of_input : {A : Type 1} → (RunnerConfig → ℕ → ℕ → List ℕ → A) → Input → A
+of_input f p = f (config_of p.o) p.w p.h p.image.now

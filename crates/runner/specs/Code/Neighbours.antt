@@ -7,7 +7,6 @@ use Rattle.rules.specs.Color.{Color, color_diff, average, has_average}
 use Rattle.rules.specs.Layout.{walk, slot_width, first_pixel_place, pixel_count_place}
 use Rattle.rules.specs.Paint.{reads}
 use Rattle.rules.specs.Stage2.{labels_around}
-use Rattle.rules.specs.Code.Bounds.{count_bound}
 use Rattle.runner.specs.declared.cluster.Nearest.{Nearest}
 use Rattle.runner.specs.Code.Slots.{sum_at}
 
@@ -68,8 +67,6 @@ pub record Notable (table : List ℕ) (size l : ℕ) : Type 0 where
 -- What a scan for the neighbours of cluster k asks: its pixels can be listed, every label but 0 has a slot and a mark,
 -- and no mark is of this visit or a later one.
 pub record Scannable (labels links table marks : List ℕ) (w h k visit : ℕ) : Type 0 where
-  pub width : 0 < w
-  pub small : w * h ≤ count_bound
   pub labelled : w * h ≤ length labels
   pub linked : w * h ≤ length links
   pub own : Averaged table k

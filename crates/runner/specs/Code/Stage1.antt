@@ -1,6 +1,6 @@
 -- Stage 1 over the buffers: what its functions are given and what they hold.
-use Rattle.std.specs.Prelude.{◌≡◌, ◌≢◌, Bool, true, false, not, ◌&&◌, List, ℕ, ◌+◌, ◌*◌, ◌≤◌, ◌<◌, T, ltb, eqb, pos}
-use Rattle.std.specs.Prelude.{length, get_or, replicate, if◌then◌else◌}
+use Rattle.std.specs.Prelude.{◌≡◌, ◌≢◌, Bool, true, false, not, ◌&&◌, List, ℕ, ◌+◌, ◌*◌, ◌≤◌, ◌<◌, T, ltb, eqb}
+use Rattle.std.specs.Prelude.{length, replicate, if◌then◌else◌}
 use Rattle.std.proofs.Math.Option.{some}
 use Rattle.rules.specs.Color.{RunnerConfig, pixel, keying_on, is_discard}
 use Rattle.rules.specs.Grid.{up, left, up_left}
@@ -9,7 +9,6 @@ use Rattle.rules.specs.Stage1.{color_at, same_at, is_key, place, taken}
 use Rattle.rules.specs.Demand3.{Discarded}
 use Rattle.rules.specs.Code.Early.{Early}
 use Rattle.rules.specs.Layout.{slot_width}
-use Rattle.rules.specs.Code.Bounds.{capacity}
 use Rattle.color.specs.Colors.{color_of, option_of}
 use Rattle.runner.specs.declared.stage1.Seen.{Seen}
 use Rattle.runner.specs.declared.stage1.Into.{Into}

@@ -1,6 +1,6 @@
 -- Stage 2 in the buffers: what is carried from turn to turn.
-use Rattle.std.specs.Prelude.{◌≡◌, Bool, true, ◌&&◌, ◌||◌, List, ◌++◌, ltb, leb, eqb, ℕ, ◌+◌, ◌-◌, ◌*◌, ◌≤◌, ◌<◌, max}
-use Rattle.std.specs.Prelude.{length, get_or, set, take, drop, if◌then◌else◌}
+use Rattle.std.specs.Prelude.{◌≡◌, Bool, true, ◌&&◌, ◌||◌, List, ltb, leb, eqb, ℕ, ◌+◌, ◌*◌, ◌≤◌, ◌<◌, max}
+use Rattle.std.specs.Prelude.{length, get_or, set, if◌then◌else◌}
 use Rattle.std.proofs.Math.Option.{some}
 use Rattle.rules.specs.Color.{RunnerConfig, hierarchical_max, exceeds, discards}
 use Rattle.rules.specs.State.{State, cluster, area}
@@ -9,7 +9,7 @@ use Rattle.rules.specs.Stage2.{prepare_stage2, neighbours, rank}
 use Rattle.rules.specs.Stage2 as rules
 use Rattle.rules.specs.Run.{stage1}
 use Rattle.rules.specs.Code.Order as order
-use Rattle.rules.specs.Code.Bounds.{count_bound, capacity}
+use Rattle.rules.specs.Code.Bounds.{count_bound}
 use Rattle.runner.specs.declared.stage2.Turns.{Turns}
 use Rattle.runner.specs.declared.cluster.Nearest.{Nearest}
 use Rattle.runner.specs.Code.Slots.{head_at, saved_residue}
@@ -18,37 +18,19 @@ use Rattle.runner.specs.Code.Queue.{Sized, Tree, KeySet, Keyed, queue_key}
 use Rattle.runner.specs.Code.Neighbours.{nearest_of}
 use Rattle.runner.specs.Code.Interior.{some_inside}
 
--- the numbers a to e - 1 of a list
-abbrev pub part : List ℕ → ℕ → ℕ → List ℕ
-part w a e = take (e - a) (drop a w)
-
--- a list with other numbers in the place of a to e - 1
-abbrev pub with_part : List ℕ → ℕ → ℕ → List ℕ → List ℕ
-with_part w a e ys = take a w ++ (ys ++ drop (e - a) (drop a w))
-
--- The four parts of the work buffer, for room slots: the queue, the ends of the lists, the marks, the staged outputs.
-abbrev pub queue_part : ℕ → List ℕ → List ℕ
-queue_part room work = part work 0 (3 * room)
-
--- the ends of the lists
-abbrev pub ends_part : ℕ → List ℕ → List ℕ
-ends_part room work = part work (3 * room) (5 * room)
-
--- the marks
-abbrev pub marks_part : ℕ → List ℕ → List ℕ
-marks_part room work = part work (5 * room) (6 * room)
-
--- Labels L, links K, table B and work buffer W hold state s with the pending slots `keys`; n slots, m outputs, and no
--- mark above `turns`.
-pub record Carried (size : ℕ) (s : State) (keys t₀ L K B W : List ℕ) (n m turns : ℕ) : Type 0 where
-  pub long : length W ≡ 8 * (size + 1)
-  pub rep : Rep size s t₀ L K B (ends_part (size + 1) W)
+-- Labels L, links K, table B, ends E, queue Q, marks M and staged outputs S hold state s with the pending slots `keys`; n
+-- slots, m outputs, and no mark above `turns`.
+pub record Carried (size : ℕ) (s : State) (keys t₀ L K B E Q M S : List ℕ) (n m turns : ℕ) : Type 0 where
+  pub queue-long : length Q ≡ 3 * (size + 1)
+  pub marks-long : length M ≡ size + 1
+  pub staged-long : length S ≡ 2 * (size + 1)
+  pub rep : Rep size s t₀ L K B E
   pub slots : n ≡ length s.clusters
-  pub tree : Tree (queue_part (size + 1) W) n (size + 1)
-  pub keyed : Keyed (queue_part (size + 1) W) n keys
-  pub marked : (j : ℕ) → get_or (marks_part (size + 1) W) j 0 ≤ turns
+  pub tree : Tree Q n (size + 1)
+  pub keyed : Keyed Q n keys
+  pub marked : (j : ℕ) → get_or M j 0 ≤ turns
   pub entries : m ≡ length s.outputs
-  pub staged : (i : ℕ) → i < m → get_or W (6 * (size + 1) + i) 0 ≡ get_or s.outputs i 0
+  pub staged : (i : ℕ) → i < m → get_or S i 0 ≡ get_or s.outputs i 0
 
 -- table B and queue Q after slot k is prepared: its residue is its sum, its key its pixel count; r is the larger of
 -- that count and `most`
@@ -86,15 +68,14 @@ deepens_at o image labels links w h k first area d =
 abbrev pub one_put : Turns → Turns
 one_put t = record { n = t.n; m = t.m + 1; turns = t.turns; largest = t.largest }
 
--- the outputs have room for one more
-pub record CanPut (room m : ℕ) (W : List ℕ) : Type 0 where
-  pub long : length W ≡ 8 * room
-  pub few : m < 2 * room
-  pub small : room ≤ count_bound
+-- the staged outputs have room for one more, and can be counted
+pub record CanPut (m : ℕ) (S : List ℕ) : Type 0 where
+  pub few : m < length S
+  pub small : length S ≤ 2 * count_bound
 
 -- cluster k is put out, if `out` says so
-pub record Put (out : Bool) (room k : ℕ) (t r : Turns) (W W' : List ℕ) : Type 0 where
-  pub work : W' ≡ (if out then set W (6 * room + t.m) k else W)
+pub record Put (out : Bool) (k : ℕ) (t r : Turns) (S S' : List ℕ) : Type 0 where
+  pub staged : S' ≡ (if out then set S t.m k else S)
   pub turns : r ≡ (if out then one_put t else t)
 
 -- whether a cluster of `area` pixels without neighbours is put out
@@ -102,19 +83,16 @@ abbrev pub goes_out : RunnerConfig → ℕ → ℕ → Bool
 goes_out o largest area = leb largest area || discards o
 
 -- slot `to`, one of n, can take its pixel count for its key
-pub record CanGrow (room n to : ℕ) (B W : List ℕ) : Type 0 where
+pub record CanGrow (room n to : ℕ) (B Q : List ℕ) : Type 0 where
   pub slot : slot_width * to + slot_width ≤ length B
-  pub long : length W ≡ 8 * room
-  pub sized : Sized n room (3 * room)
+  pub sized : Sized n room (length Q)
   pub inside : to < n
-  pub tree : Tree (queue_part room W) n room
+  pub tree : Tree Q n room
 
 -- it has done so, and may be the largest
-pub record Grown (room to : ℕ) (t r : Turns) (B W W' : List ℕ) : Type 0 where
-  pub queue : List ℕ
-  pub work : W' ≡ with_part W 0 (3 * room) queue
-  pub wide : length queue ≡ 3 * room
-  pub keyed : KeySet (queue_part room W) queue t.n room to (get_or B (slot_width * to + pixel_count_place) 0)
+pub record Grown (room to : ℕ) (t r : Turns) (B Q Q' : List ℕ) : Type 0 where
+  pub wide : length Q' ≡ length Q
+  pub keyed : KeySet Q Q' t.n room to (get_or B (slot_width * to + pixel_count_place) 0)
   pub turns : r
       ≡ record {
         n = t.n;
@@ -126,13 +104,6 @@ pub record Grown (room to : ℕ) (t r : Turns) (B W W' : List ℕ) : Type 0 wher
 
 -- ---- the turns of the rules in the buffers
 
--- an image of w columns and h rows
-pub record Image (w h : ℕ) (image : List ℕ) : Type 0 where
-  pub columns : 0 < w
-  pub small : w * h ≤ capacity
-  pub whole : length image ≡ 4 * (w * h)
-  pub bytes : (i : ℕ) → get_or image i 0 ≤ 255
-
 -- the state and the pending slots of the rules before turn i
 abbrev pub queue_at : RunnerConfig → ℕ → ℕ → List ℕ → ℕ → order.Queue
 queue_at o w h image i = order.turns o w h i (order.start (prepare_stage2 (stage1 o w h image)))
@@ -143,10 +114,9 @@ visit_at o w h image i k =
     rules.visit o w h (area (cluster (queue_at o w h image i).now k)) k (queue_at o w h image i).now
 
 -- the buffers hold what the rules have before turn i, and t the largest pixel count
-pub record Between (o : RunnerConfig) (w h : ℕ) (image t₀ L K B W : List ℕ) (t : Turns) : Type 0 where
-  pub image-fits : Image w h image
+pub record Between (o : RunnerConfig) (w h : ℕ) (image t₀ L K B E Q M S : List ℕ) (t : Turns) : Type 0 where
   pub table_fits : slot_width * (w * h + 1) ≤ length t₀
-  pub carried : Carried (w * h) (queue_at o w h image t.turns).now (queue_at o w h image t.turns).keys t₀ L K B W
+  pub carried : Carried (w * h) (queue_at o w h image t.turns).now (queue_at o w h image t.turns).keys t₀ L K B E Q M S
       t.n t.m t.turns
   pub top : t.largest ≡ order.largest (queue_at o w h image t.turns).now.clusters
 
@@ -156,12 +126,11 @@ pub record Chosen (o : RunnerConfig) (w h : ℕ) (image : List ℕ) (i k a : ℕ
   pub count : a ≡ area (cluster (queue_at o w h image i).now k)
 
 -- it is being visited, and is no longer pending; no mark is above `marks`
-pub record Visiting (o : RunnerConfig) (w h : ℕ) (image t₀ L K B W : List ℕ) (t : Turns) (k a marks : ℕ) : Type 0 where
-  pub image-fits : Image w h image
+pub record Visiting (o : RunnerConfig) (w h : ℕ) (image t₀ L K B E Q M S : List ℕ) (t : Turns) (k a marks : ℕ) : Type 0 where
   pub table_fits : slot_width * (w * h + 1) ≤ length t₀
   pub chosen : Chosen o w h image t.turns k a
   pub carried : Carried (w * h) (queue_at o w h image t.turns).now (set (queue_at o w h image t.turns).keys k 0)
-      t₀ L K B W t.n t.m marks
+      t₀ L K B E Q M S t.n t.m marks
   pub top : t.largest ≡ order.largest (queue_at o w h image t.turns).now.clusters
 
 -- it is not above `hierarchical`, and near is what the rules have of its neighbours, of which there are some
@@ -171,40 +140,38 @@ pub record Aimed (o : RunnerConfig) (w h : ℕ) (image : List ℕ) (i k : ℕ) (
   pub some : 0 < near.count
 
 -- it deepens into the nearest of them
-pub record Deepening (o : RunnerConfig) (w h : ℕ) (image t₀ L K B W : List ℕ) (t : Turns) (room k a : ℕ)
+pub record Deepening (o : RunnerConfig) (w h : ℕ) (image t₀ L K B E Q M S : List ℕ) (t : Turns) (k a : ℕ)
     (near : Nearest) : Type 0 where
-  pub slots : room ≡ w * h + 1
-  pub visiting : Visiting o w h image t₀ L K B W t k a (t.turns + 1)
+  pub visiting : Visiting o w h image t₀ L K B E Q M S t k a (t.turns + 1)
   pub aimed : Aimed o w h image t.turns k near
   pub deepens : rules.deepens o w h (queue_at o w h image t.turns).now k near.target ≡ true
 
 -- and it was visited: the buffers hold what the visit made of the state, with the pending slots after it
-pub record Visited (o : RunnerConfig) (w h : ℕ) (image t₀ L K B W : List ℕ) (t r : Turns) (k : ℕ) : Type 0 where
+pub record Visited (o : RunnerConfig) (w h : ℕ) (image t₀ L K B E Q M S : List ℕ) (t r : Turns) (k : ℕ) : Type 0 where
   pub carried : Carried (w * h) (visit_at o w h image t.turns k)
       (order.rekey k (queue_at o w h image t.turns).now (visit_at o w h image t.turns k)
-      (queue_at o w h image t.turns).keys) t₀ L K B W r.n r.m (t.turns + 1)
+      (queue_at o w h image t.turns).keys) t₀ L K B E Q M S r.n r.m (t.turns + 1)
   pub same : r.turns ≡ t.turns
   pub top : r.largest ≡ order.largest (visit_at o w h image t.turns k).clusters
 
 -- ---- stage 2
 
--- what stage 2 starts from: the buffers hold what stage 1 left, in n slots
-pub record Entered (o : RunnerConfig) (w h : ℕ) (image t₀ L K B W : List ℕ) (n : ℕ) : Type 0 where
-  pub rep : Rep (w * h) (stage1 o w h image) t₀ L K B (ends_part (w * h + 1) W)
+-- what stage 2 starts from: the buffers hold what stage 1 left, in n slots, and no mark
+pub record Entered (o : RunnerConfig) (w h : ℕ) (image t₀ L K B E Q M S : List ℕ) (n : ℕ) : Type 0 where
+  pub rep : Rep (w * h) (stage1 o w h image) t₀ L K B E
   pub slots : n ≡ length (stage1 o w h image).clusters
   pub table_fits : slot_width * (w * h + 1) ≤ length t₀
+  pub queue-long : length Q ≡ 3 * (w * h + 1)
+  pub marks-long : length M ≡ w * h + 1
+  pub staged-long : length S ≡ 2 * (w * h + 1)
+  pub marks : (j : ℕ) → get_or M j 0 ≡ 0
 
--- and the work buffer has room, with no mark in it
-pub record CanStage2 (w h : ℕ) (image W : List ℕ) : Type 0 where
-  pub image-fits : Image w h image
-  pub work : length W ≡ 8 * (w * h + 1)
-  pub marks : (j : ℕ) → get_or (marks_part (w * h + 1) W) j 0 ≡ 0
-
--- what it leaves: the buffers hold state u of n slots, with its m outputs in the last part of the work buffer
-pub record Staged (size : ℕ) (u : State) (t₀ L K B W : List ℕ) (n m : ℕ) : Type 0 where
+-- what it leaves: the buffers hold state u of n slots, with its m outputs staged
+pub record Staged (size : ℕ) (u : State) (t₀ L K B E Q M S : List ℕ) (n m : ℕ) : Type 0 where
   pub labelled : L ≡ u.labels
   pub linked : K ≡ links u
   pub tabled : Table (length u.clusters) (slots_of u) t₀ B
   pub slots : n ≡ length u.clusters
   pub entries : m ≡ length u.outputs
-  pub staged : (i : ℕ) → i < m → get_or W (6 * (size + 1) + i) 0 ≡ get_or u.outputs i 0
+  pub long : length S ≡ 2 * (size + 1)
+  pub staged : (i : ℕ) → i < m → get_or S i 0 ≡ get_or u.outputs i 0

@@ -1,9 +1,31 @@
-use mathlib.Core.Path.{sym}
+use Rattle.std.proofs.Common.{◌≡◌, refl, sym, ap, List, ℕ, map, length, arith}
+use Rattle.rules.specs.Grid.{sides}
+use Rattle.runner.specs.Code.Neighbours.{place_label, noted_four}
+use Rattle.runner.proofs.Nearest.{some-noted, one-noted, all-noted}
 use Rattle.runner.proofs.cluster.look.Goals as goal
 
-pub returns-then-is_inside : goal.returns-then-is_inside
-returns-then-is_inside c = sym (c.is_inside.ensures c.if-is_inside.true _ _ _ _)
+-- the labels at the four places
+four : (labels : List ℕ) (w h p : ℕ) {ls : List ℕ} → ls ≡ map (place_label labels) (sides w h p) → length ls ≡ 4
+unfolding sides
+four labels w h p e = ap length e
 
-pub note_four-requires-clause-by_index : goal.note_four-requires-clause-by_index
-note_four-requires-clause-by_index c =
-    rw c.four_labels-four.ensures c.requires.by_index
+pub returns-then-is_inside : goal.returns-then-is_inside
+returns-then-is_inside c = sym (c.is_inside.ensures c.if-is_inside.true _ _ _)
+
+pub loop-label-init : goal.loop-label-init
+loop-label-init c = refl
+
+pub note-near-requires : goal.note-near-requires
+note-near-requires c =
+    let f = c.four_labels-label-items in
+    let l = c.loop-label in
+    let n = some-noted _ _ _ f.result l.label-index _ _ (omega (arith, four _ _ _ _ f.ensures)) l.invariant in
+    record { notable = rw (l.auto.marks, f.ensures) (c.requires.notable l.label-index (omega arith)); count_bound = omega (arith, n, c.requires.count_bound) }
+
+pub loop-label-preserved : goal.loop-label-preserved
+loop-label-preserved c = let f = c.four_labels-label-items in
+    one-noted _ _ _ f.result c.loop-label.label-index _ _ _ (omega (arith, four _ _ _ _ f.ensures)) c.loop-label.invariant c.note-near.ensures
+
+pub returns : goal.returns
+unfolding sides noted_four
+returns c = let f = c.four_labels-label-items in rw f.ensures at (all-noted _ _ _ f.result c.loop-label.label-index _ _ (omega (arith, ap length f.ensures)) c.loop-label.invariant)

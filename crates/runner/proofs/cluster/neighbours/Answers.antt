@@ -10,6 +10,7 @@ use borrow.Author.Tests.{ne_eqb}
 use Rattle.rules.specs.Color.{Color, average}
 use Rattle.rules.specs.Grid.{sides}
 use Rattle.rules.specs.Layout.{slot_width, first_pixel_place, pixel_count_place}
+use Rattle.rules.specs.Code.Bounds.{capacity}
 use Rattle.rules.specs.Stage2.{labels_at, labels_around}
 use Rattle.rules.proofs.Connected.{AllSome}
 use Rattle.rules.proofs.Labels.{sides-fit}
@@ -21,12 +22,12 @@ use Rattle.runner.proofs.cluster.neighbours.Invariants.{Going}
 use Rattle.runner.proofs.cluster.neighbours.Goals as goal
 use Rattle.runner.proofs.cluster.neighbours.Goals.{In-loop}
 
-module _ (labels links table marks : List ℕ) (w h k visit : ℕ) (S : Scannable labels links table marks w h k visit) where
+module _ (labels links table marks : List ℕ) (w h k visit : ℕ) (small : w * h ≤ capacity) (S : Scannable labels links table marks w h k visit) where
   begins : Going labels links table marks w h k visit (record { marks = marks; nearest = nearest_of (diff_at table k) [] }) (get_or table (slot_width * k + first_pixel_place) 0) (get_or table (slot_width * k + pixel_count_place) 0)
   begins = record {
     kept = refl;
     readable = S.readable;
-    few = omega (arith, S.few, S.small);
+    few = omega (arith, S.few, small);
     found = [];
     holds = record {
       rising = tt;
@@ -83,7 +84,7 @@ module _ (labels links table marks : List ℕ) (w h k visit : ℕ) (S : Scannabl
   }
 
 -- the pixel of a turn
-here : (c : In-loop) → let a = c.args in Step (a.w * a.h) a.links.now c.loop.at (get_or a.table.now (slot_width * a.k + pixel_count_place) 0 - c.loop.counter)
+here : (c : In-loop) → let a = c.args in Step (a.input.now.w * a.input.now.h) a.b.now.links.now c.loop.at (get_or a.b.now.table.now (slot_width * a.k + pixel_count_place) 0 - c.loop.counter)
 here c = step _ _ _ _ (omega arith) c.loop.invariant.readable
 
 pub overflow_sub-p : goal.overflow_sub-p
@@ -93,17 +94,17 @@ pub look-found-requires : goal.look-found-requires
 look-found-requires c =
     let S = c.requires in
     let at = here (goal.at.look-found-requires c).In-loop in
-    let a = asks _ _ _ _ _ _ _ _ S _ _ _ _ (omega arith) refl c.loop.invariant in
-    record { w_nonzero = (S.width, omega (arith, at.some, at.within), S.labelled, S.small); by_index = a.0; count_bound = a.1 }
+    let a = asks _ _ _ _ _ _ _ _ c.args.input.now.given.small S _ _ _ _ (omega arith) refl c.loop.invariant in
+    record { pixel = (omega (arith, at.some, at.within), S.labelled); notable = a.0; count_bound = a.1 }
 
-pub bounds-links-p : goal.bounds-links-p
-bounds-links-p c = omega (arith, (here (goal.at.bounds-links-p c).In-loop).some, (here (goal.at.bounds-links-p c).In-loop).within, c.requires.linked)
+pub bounds-b-p : goal.bounds-b-p
+bounds-b-p c = omega (arith, (here (goal.at.bounds-b-p c).In-loop).some, (here (goal.at.bounds-b-p c).In-loop).within, c.requires.linked)
 
 pub loop-preserved : goal.loop-preserved
 loop-preserved c =
-    let count = get_or c.args.table.now (slot_width * c.args.k + pixel_count_place) 0 in
+    let count = get_or c.args.b.now.table.now (slot_width * c.args.k + pixel_count_place) 0 in
     let e : count - (c.loop.counter + 1) ≡ count - c.loop.counter - 1 = omega arith in
-    rw e (turn _ _ _ _ _ _ _ _ c.requires _ _ _ _ _ _ (omega arith) refl c.color-mine.ensures c.look-found.ensures c.loop.invariant)
+    rw e (turn _ _ _ _ _ _ _ _ c.args.input.now.given.small c.requires _ _ _ _ _ _ (omega arith) refl c.color.ensures c.look-found.ensures c.loop.invariant)
 
 pub returns : goal.returns
-returns c = ends _ _ _ _ _ _ _ _ c.requires _ _ _ (omega arith) c.loop.invariant
+returns c = ends _ _ _ _ _ _ _ _ c.args.input.now.given.small c.requires _ _ _ (omega arith) c.loop.invariant

@@ -3,7 +3,7 @@ use mathlib.Core.List.{List, []}
 use Prim.Native.Nat.{ℕ, ◌+◌, ◌-◌, ◌*◌, ◌≤◌}
 use lib.Dec.{T}
 use lib.ListN.{length, get_or}
-use Rattle.rules.specs.Layout.{walk}
+use Rattle.rules.specs.Layout.{walk, slot_width, pixel_count_place}
 use Rattle.rules.specs.Paint.{reads}
 use Rattle.rules.specs.Stage2.{labels_around}
 use Rattle.runner.specs.Code.Neighbours.{diff_at, Scan, list_at}
@@ -20,4 +20,5 @@ pub record Going (labels links table marks : List ℕ) (w h k visit : ℕ) (s : 
   pub rest : labels_around w h labels k (walk (λ p. get_or links p 0) at left) found ≡ labels_around w h labels k (list_at links table k) []
 
 abbrev pub invariant-loop : goal.invariant-loop
-invariant-loop l = Going l.labels l.links l.table l.initial.marks l.w l.h l.k l.visit (record { marks = l.marks; nearest = l.found }) l.at (l.count - l.counter)
+invariant-loop l = let b = l.b in
+    Going b.labels.now b.links.now b.table.now l.initial.marks l.input.w l.input.h l.k l.visit (record { marks = l.marks; nearest = l.found }) l.at (get_or b.table.now (slot_width * l.k + pixel_count_place) 0 - l.counter)

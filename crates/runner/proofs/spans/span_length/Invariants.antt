@@ -1,4 +1,3 @@
-use Rattle.std.proofs.Common.{◌≡◌, pos}
 use Rattle.rules.specs.Code.Spans.{AllExtend}
 use Rattle.runner.specs.Types.{config_of}
 use Rattle.runner.proofs.spans.span_length.Given as goal

@@ -1,24 +1,28 @@
+use native.Mathlib.Omega.{arith}
 use borrow.Author.Tests.{le-leb, lt-leb}
-use Rattle.runner.proofs.Rooms.{deepen-puts, deepen-asks, deepened-grows, deepened-visited, hollow-asks, hollowed-grows, hollowed-visited}
+use Rattle.runner.proofs.Visiting.{can-put, deepen-asks, deepened-grows, deepened-visited, hollow-asks, hollowed-grows, hollowed-visited}
 use Rattle.runner.proofs.stage2.deepen_into_nearest.Goals as goal
 
 pub put_out-put-requires : goal.put_out-put-requires
-put_out-put-requires c = deepen-puts c.requires.5
+put_out-put-requires c = can-put c.args.input.now.given c.requires.2.visiting
 
 pub deepen_cluster_into-requires : goal.deepen_cluster_into-requires
-deepen_cluster_into-requires c = deepen-asks c.requires.5 c.put_out-put.ensures
+deepen_cluster_into-requires c = let d = c.requires.2 in deepen-asks c.args.input.now.given d.visiting d.aimed
 
 pub append_hole-requires : goal.append_hole-requires
-append_hole-requires c = hollow-asks c.requires.5 c.put_out-put.ensures c.deepen_cluster_into.ensures
+append_hole-requires c = let d = c.requires.2 in hollow-asks c.args.input.now.given d.visiting d.aimed c.put_out-put.ensures c.deepen_cluster_into.ensures.deepened
 
 pub grown-requires : goal.grown-requires
-grown-requires c = hollowed-grows c.requires.5 c.put_out-put.ensures c.deepen_cluster_into.ensures c.append_hole.ensures
+grown-requires c = let d = c.requires.2 in
+    hollowed-grows c.args.input.now.given d.visiting d.aimed c.put_out-put.ensures c.deepen_cluster_into.ensures.deepened c.append_hole.ensures.hollowed
 
-pub returns-then-near-o : goal.returns-then-near-o
-returns-then-near-o c = λ w h image t₀ a d. hollowed-visited d c.put_out-put.ensures c.deepen_cluster_into.ensures c.append_hole.ensures (le-leb _ _ c.if-near-o.true) c.grown.ensures
+pub returns-then-near-input-clause-visited : goal.returns-then-near-input-clause-visited
+returns-then-near-input-clause-visited c t₀ a d = let l = c.append_hole.ensures.lists in rw (l.0, l.1)
+    (hollowed-visited c.args.input.now.given d.visiting d.aimed c.put_out-put.ensures c.deepen_cluster_into.ensures.deepened c.append_hole.ensures.hollowed (le-leb _ _ c.if-near-input.true) d.deepens (omega arith) c.grown.ensures)
 
 pub grown-requires-2 : goal.grown-requires-2
-grown-requires-2 c = deepened-grows c.requires.5 c.put_out-put.ensures c.deepen_cluster_into.ensures
+grown-requires-2 c = let d = c.requires.2 in deepened-grows c.args.input.now.given d.visiting d.aimed c.put_out-put.ensures c.deepen_cluster_into.ensures.deepened
 
-pub returns : goal.returns
-returns c = λ w h image t₀ a d. deepened-visited d c.put_out-put.ensures c.deepen_cluster_into.ensures (lt-leb _ _ c.if-near-o.false) c.grown-2.ensures
+pub returns-clause-visited : goal.returns-clause-visited
+returns-clause-visited c t₀ a d =
+    deepened-visited c.args.input.now.given d.visiting d.aimed c.put_out-put.ensures c.deepen_cluster_into.ensures.deepened (lt-leb _ _ c.if-near-input.false) d.deepens (omega arith) c.grown-2.ensures
