@@ -7,7 +7,8 @@ use Rattle.color.specs.Colors.{color_of}
 equivalence : IsEquivalence equal_color
 unfolding equal_color
 equivalence =
-    and_equiv (and_equiv (and_equiv (on_equiv (λ (c : Color). c.r) nat_eq_equiv) (on_equiv (λ (c : Color). c.g) nat_eq_equiv))
+    and_equiv (and_equiv
+    (and_equiv (on_equiv (λ (c : Color). c.r) nat_eq_equiv) (on_equiv (λ (c : Color). c.g) nat_eq_equiv))
     (on_equiv (λ (c : Color). c.b) nat_eq_equiv)) (on_equiv (λ (c : Color). c.a) nat_eq_equiv)
 
 pub equal-equivalence : IsEquivalence (on color_of equal_color)

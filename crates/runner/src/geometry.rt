@@ -46,10 +46,10 @@ fn surrounded(b: &Builder, input: &Input, k: u32, p: u32) -> bool
 #[tactic(auto, unfolding(crate::specs::Code::Interior::some_inside), using(rules::proofs::Walks::walk_none, rules::proofs::Walks::step))]
 pub(crate) fn has_interior(b: &Builder, input: &Input, e: Entry) -> bool
     requires slot { InTable e.slot b.now.table.now }
-    requires pixels { (input.now.w * input.now.h ≡ length b.now.labels.now) × (input.now.w * input.now.h ≤ length b.now.links.now) }
-    requires list { T
-        (reads (input.now.w * input.now.h) b.now.links.now (get_or b.now.table.now (slot_width * e.slot + first_pixel_place) 0)
-        e.key) }
+    requires pixels { (input.now.w * input.now.h ≡ length b.now.labels.now)
+        × (input.now.w * input.now.h ≤ length b.now.links.now) }
+    requires list { T (reads (input.now.w * input.now.h) b.now.links.now
+        (get_or b.now.table.now (slot_width * e.slot + first_pixel_place) 0) e.key) }
     ensures { let p = input.now in result
         ≡ some_inside (config_of p.o) p.image.now b.now.labels.now p.w p.h e.slot
         (walk (λ p. get_or b.now.links.now p 0)

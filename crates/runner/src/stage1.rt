@@ -15,7 +15,7 @@ ghost use Rattle.runner.specs.Code.Spans.{LimitsOf};
 ghost use Rattle.runner.specs.Code.Stage1.{SeenAt, Holding, meets, joined, goes_into};
 ghost use Rattle.runner.specs.Code.Stage1.{Opened};
 ghost use Rattle.runner.specs.Code.Stage1.{Placing, Meeting, Sided, Taking, Blank};
-ghost use Rattle.runner.specs.Code.Lists.{of_lists, SameLists};
+ghost use Rattle.runner.specs.Code.Lists.{of_lists, of_input, SameLists};
 ghost use Rattle.runner.specs.Code.Given.{Spot};
 
 use super::builder::Builder;
@@ -222,11 +222,11 @@ fn slot_for(table: &mut [u32], to: Into, v: Sides) -> Target
 // Steps 2 to 5.
 fn place(b: &mut Builder, input: &Input, p: Seen, v: Sides, at: Pixel) -> Slots
     requires { (st : State) × (t₀ : List ℕ) × SeenAt input.now.w input.now.image.now at.i p
-        × of_lists (Placing (config_of input.now.o) input.now.w input.now.h input.now.image.now input.now.shift at.i at.x at.y
+        × of_lists (of_input Placing input.now input.now.shift at.i at.x at.y
         v.left v.up st t₀) b.old v.slots.next_index v.slots.count }
     ensures loans { SameLists b.old b.new }
     ensures holding { let e = input.now in (st : State) (t₀ : List ℕ) → SeenAt e.w e.image.now at.i p
-        → of_lists (Placing (config_of e.o) e.w e.h e.image.now e.shift at.i at.x at.y v.left v.up st t₀)
+        → of_lists (of_input Placing e e.shift at.i at.x at.y v.left v.up st t₀)
         b.old v.slots.next_index v.slots.count
         → of_lists (Holding (e.w * e.h) (rules.place (config_of e.o) e.w e.image.now at.i v.left v.up st) t₀)
         b.new result.next_index result.count }
@@ -312,12 +312,12 @@ fn left_label(b: &Builder, at: Pixel) -> u32
 // Step 1: the labels of left and up, whose clusters are combined where they meet.
 fn meet(b: &mut Builder, input: &Input, p: Seen, s: Slots, at: Pixel) -> Sides
     requires { (t₀ : List ℕ) × SeenAt input.now.w input.now.image.now at.i p
-        × of_lists (Taking (config_of input.now.o) input.now.w input.now.h input.now.image.now input.now.shift at.i at.x at.y t₀)
+        × of_lists (of_input Taking input.now input.now.shift at.i at.x at.y t₀)
         b.old s.next_index s.count }
     ensures loans { SameLists b.old b.new }
     ensures sided { let e = input.now in (t₀ : List ℕ) → SeenAt e.w e.image.now at.i p
-        → of_lists (Taking (config_of e.o) e.w e.h e.image.now e.shift at.i at.x at.y t₀) b.old s.next_index s.count
-        → of_lists (Sided (config_of e.o) e.w e.h e.image.now e.shift at.i at.x at.y
+        → of_lists (of_input Taking e e.shift at.i at.x at.y t₀) b.old s.next_index s.count
+        → of_lists (of_input Sided e e.shift at.i at.x at.y
         (rules.taken (config_of e.o) e.w e.image.now (e.w * e.h) (suc at.i)) t₀)
         b.new result.left result.up result.slots.next_index result.slots.count }
 {
@@ -336,11 +336,11 @@ fn meet(b: &mut Builder, input: &Input, p: Seen, s: Slots, at: Pixel) -> Sides
 // A pixel is taken.
 fn take_pixel(b: &mut Builder, input: &Input, s: Slots, at: Pixel) -> Slots
     requires { (t₀ : List ℕ)
-        × of_lists (Taking (config_of input.now.o) input.now.w input.now.h input.now.image.now input.now.shift at.i at.x at.y t₀)
+        × of_lists (of_input Taking input.now input.now.shift at.i at.x at.y t₀)
         b.old s.next_index s.count }
     ensures loans { SameLists b.old b.new }
     ensures holding { let e = input.now in (t₀ : List ℕ)
-        → of_lists (Taking (config_of e.o) e.w e.h e.image.now e.shift at.i at.x at.y t₀) b.old s.next_index s.count
+        → of_lists (of_input Taking e e.shift at.i at.x at.y t₀) b.old s.next_index s.count
         → of_lists (Holding (e.w * e.h) (rules.taken (config_of e.o) e.w e.image.now (e.w * e.h) (suc at.i)) t₀)
         b.new result.next_index result.count }
 {
@@ -360,12 +360,12 @@ struct Step {
 fn take_pixels(b: &mut Builder, input: &Input, limits: &[u8; 16], s: Slots, at: Pixel) -> Step
     requires limits_of { LimitsOf (config_of input.now.o) limits.now }
     requires taking { (t₀ : List ℕ)
-        × of_lists (Taking (config_of input.now.o) input.now.w input.now.h input.now.image.now input.now.shift at.i at.x at.y t₀)
+        × of_lists (of_input Taking input.now input.now.shift at.i at.x at.y t₀)
         b.old s.next_index s.count }
     ensures loans { SameLists b.old b.new }
     ensures pixels { (0 < result.pixels) × (at.x + result.pixels ≤ input.now.w) }
     ensures holding { let e = input.now in (t₀ : List ℕ)
-        → of_lists (Taking (config_of e.o) e.w e.h e.image.now e.shift at.i at.x at.y t₀) b.old s.next_index s.count
+        → of_lists (of_input Taking e e.shift at.i at.x at.y t₀) b.old s.next_index s.count
         → of_lists (Holding (e.w * e.h)
         (rules.taken (config_of e.o) e.w e.image.now (e.w * e.h) (at.i + result.pixels)) t₀)
         b.new result.slots.next_index result.slots.count }

@@ -19,8 +19,8 @@ use super::queue::Entry;
 use super::{cluster, geometry, keying, queue, slot};
 use crate::{HIERARCHICAL_MAX, RunnerConfig};
 
-// What stage 2 has beside the lists, for room = w × h + 1 slots: the queue of pending slots (3 × room), the marks of the
-// neighbours (room), and the outputs before any is dropped (2 × room).
+// What stage 2 has beside the lists, for room = w × h + 1 slots: the queue of pending slots (3 × room), the marks of
+// the neighbours (room), and the outputs before any is dropped (2 × room).
 #[derive(Drop)]
 pub(crate) struct Work<'a> {
     pub(crate) queue: &'a mut [u32],
@@ -87,15 +87,15 @@ fn exceeds(d: u32, z: i32) -> bool
     z < d as i32
 }
 
-// Whether the cluster of an entry may stay a patch, after `patch_good` of runner.rs: a boundary smaller than the area is
-// told by one pixel inside.
+// Whether the cluster of an entry may stay a patch, after `patch_good` of runner.rs: a boundary smaller than the area
+// is told by one pixel inside.
 #[tactic(auto, unfolding(crate::specs::Code::Stage2::patch_good_at))]
 fn patch_good(b: &Builder, input: &Input, e: Entry) -> bool
     requires slot { InTable e.slot b.now.table.now }
-    requires pixels { (input.now.w * input.now.h ≡ length b.now.labels.now) × (input.now.w * input.now.h ≤ length b.now.links.now) }
-    requires list { T
-        (reads (input.now.w * input.now.h) b.now.links.now (get_or b.now.table.now (slot_width * e.slot + first_pixel_place) 0)
-        e.key) }
+    requires pixels { (input.now.w * input.now.h ≡ length b.now.labels.now)
+        × (input.now.w * input.now.h ≤ length b.now.links.now) }
+    requires list { T (reads (input.now.w * input.now.h) b.now.links.now
+        (get_or b.now.table.now (slot_width * e.slot + first_pixel_place) 0) e.key) }
     ensures { let p = input.now in result
         ≡ patch_good_at (config_of p.o) p.image.now b.now.labels.now b.now.links.now p.w p.h e.slot
         (get_or b.now.table.now (slot_width * e.slot + first_pixel_place) 0) e.key }
@@ -110,10 +110,10 @@ fn patch_good(b: &Builder, input: &Input, e: Entry) -> bool
 #[tactic(auto, unfolding(crate::specs::Code::Stage2::deepens_at))]
 fn deepens(b: &Builder, input: &Input, e: Entry, diff: u32) -> bool
     requires slot { InTable e.slot b.now.table.now }
-    requires pixels { (input.now.w * input.now.h ≡ length b.now.labels.now) × (input.now.w * input.now.h ≤ length b.now.links.now) }
-    requires list { T
-        (reads (input.now.w * input.now.h) b.now.links.now (get_or b.now.table.now (slot_width * e.slot + first_pixel_place) 0)
-        e.key) }
+    requires pixels { (input.now.w * input.now.h ≡ length b.now.labels.now)
+        × (input.now.w * input.now.h ≤ length b.now.links.now) }
+    requires list { T (reads (input.now.w * input.now.h) b.now.links.now
+        (get_or b.now.table.now (slot_width * e.slot + first_pixel_place) 0) e.key) }
     requires diff_bound { diff < 2147483648 }
     ensures { let p = input.now in result
         ≡ deepens_at (config_of p.o) p.image.now b.now.labels.now b.now.links.now p.w p.h e.slot
@@ -180,7 +180,8 @@ fn merge_into_nearest(
     e: Entry,
     near: Nearest,
 ) -> Turns
-    requires by_index { (t₀ : List ℕ) × of_work (of_input Visiting input.now t₀) b.old work.old t e.slot e.key (t.turns + 1) }
+    requires by_index { (t₀ : List ℕ)
+        × of_work (of_input Visiting input.now t₀) b.old work.old t e.slot e.key (t.turns + 1) }
     requires aimed { of_input Aimed input.now t.turns e.slot near }
     ensures lists { SameLists b.old b.new }
     ensures work { SameWork work.old work.new }
@@ -256,7 +257,8 @@ pub(crate) fn stage_2(b: &mut Builder, work: &mut Work, input: &Input, n: u32) -
     ensures staged { let p = input.now in (t₀ : List ℕ) → of_work (of_input Entered p t₀) b.old work.old n
         → of_work
         (Staged (p.w * p.h)
-        (stage2 (config_of p.o) p.w p.h (stage1 (config_of p.o) p.w p.h p.image.now)) t₀) b.new work.new result.n result.m }
+        (stage2 (config_of p.o) p.w p.h (stage1 (config_of p.o) p.w p.h p.image.now)) t₀)
+        b.new work.new result.n result.m }
 {
     let room = (input.w * input.h) as usize + 1;
     let largest = prepare_stage_2(b.table, work.queue, n);

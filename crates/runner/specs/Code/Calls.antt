@@ -25,8 +25,8 @@ pub record CanRun (size : ℕ) (L K B E Q M S : List ℕ) : Type 0 where
   pub marks : length M ≡ size + 1
   pub staged : length S ≡ 2 * (size + 1)
 
--- The buffers that a run is lent, of which the first two have exactly one number for each pixel, are as long as a run asks
--- for.
+-- The buffers that a run is lent, of which the first two have exactly one number for each pixel, are as long as a run
+-- asks for.
 pub record Lent (size : ℕ) (L K B O W : List ℕ) : Type 0 where
   pub labels : length L ≡ size
   pub links : length K ≡ size

@@ -22,7 +22,8 @@ pub record SameLists (old new : Builder) : Type 0 where
   pub ends_long : length new.ends.now ≡ length old.ends.now
 
 -- f of labels, links, table and ends, queue, marks and staged outputs
-abbrev pub of_work : {A : Type 1} → (List ℕ → List ℕ → List ℕ → List ℕ → List ℕ → List ℕ → List ℕ → A) → Builder → Work → A
+abbrev pub of_work : {A : Type 1} → (List ℕ → List ℕ → List ℕ → List ℕ → List ℕ → List ℕ → List ℕ → A)
+    → Builder → Work → A
 of_work f b w = of_lists f b w.queue.now w.marks.now w.staged.now
 
 -- the same three slices are lent after a call, as long as before

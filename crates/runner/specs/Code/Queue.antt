@@ -54,7 +54,8 @@ with_node queue room j e = set (set queue (room + 2 * j) e.key) (room + 2 * j + 
 unfoldable pub refreshed : List ℕ → ℕ → ℕ → ℕ → List ℕ
 refreshed queue n room j = with_node queue room j (first_below queue n room j)
 
--- node j is made from its children, and r is what it holds then; none, if it did before: it cannot change those above it
+-- node j is made from its children, and r is what it holds then; none, if it did before: it cannot change those above
+-- it
 pub record Refreshed (before after : List ℕ) (n room j : ℕ) (r : Option Entry) : Type 0 where
   pub made : after ≡ refreshed before n room j
   pub answer : MatchOption r (after ≡ before) (λ e. e ≡ first_below before n room j)

@@ -18,8 +18,8 @@ use Rattle.runner.specs.Code.Queue.{Sized, Tree, KeySet, Keyed, queue_key}
 use Rattle.runner.specs.Code.Neighbours.{nearest_of}
 use Rattle.runner.specs.Code.Interior.{some_inside}
 
--- Labels L, links K, table B, ends E, queue Q, marks M and staged outputs S hold state s with the pending slots `keys`; n
--- slots, m outputs, and no mark above `turns`.
+-- Labels L, links K, table B, ends E, queue Q, marks M and staged outputs S hold state s with the pending slots `keys`;
+-- n slots, m outputs, and no mark above `turns`.
 pub record Carried (size : ℕ) (s : State) (keys t₀ L K B E Q M S : List ℕ) (n m turns : ℕ) : Type 0 where
   pub queue-long : length Q ≡ 3 * (size + 1)
   pub marks-long : length M ≡ size + 1
@@ -126,7 +126,8 @@ pub record Chosen (o : RunnerConfig) (w h : ℕ) (image : List ℕ) (i k a : ℕ
   pub count : a ≡ area (cluster (queue_at o w h image i).now k)
 
 -- it is being visited, and is no longer pending; no mark is above `marks`
-pub record Visiting (o : RunnerConfig) (w h : ℕ) (image t₀ L K B E Q M S : List ℕ) (t : Turns) (k a marks : ℕ) : Type 0 where
+pub record Visiting (o : RunnerConfig) (w h : ℕ) (image t₀ L K B E Q M S : List ℕ) (t : Turns) (k a marks : ℕ)
+    : Type 0 where
   pub table_fits : slot_width * (w * h + 1) ≤ length t₀
   pub chosen : Chosen o w h image t.turns k a
   pub carried : Carried (w * h) (queue_at o w h image t.turns).now (set (queue_at o w h image t.turns).keys k 0)
