@@ -79,14 +79,6 @@ fn key_of(count: u32) -> u32
     if count == 0 { queue::NONE } else { count }
 }
 
-// Whether d exceeds the signed number z.
-fn exceeds(d: u32, z: i32) -> bool
-    requires { d < 2147483648 }
-    ensures { result ≡ Rattle.rules.specs.Color.exceeds d z }
-{
-    z < d as i32
-}
-
 // Whether the cluster of an entry may stay a patch, after `patch_good` of runner.rs: a boundary smaller than the area is
 // told by one pixel inside.
 #[tactic(auto, unfolding(crate::specs::Code::Stage2::patch_good_at))]
@@ -120,7 +112,7 @@ fn deepens(b: &Builder, input: &Input, e: Entry, diff: u32) -> bool
         (get_or b.now.table.now (slot_width * e.slot + first_pixel_place) 0) e.key diff }
 {
     let o = &input.o;
-    o.hierarchical == HIERARCHICAL_MAX && exceeds(diff, o.deepen_diff) && patch_good(b, input, e)
+    o.hierarchical == HIERARCHICAL_MAX && o.deepen_diff < diff as i32 && patch_good(b, input, e)
 }
 
 // Cluster k is put out.

@@ -12,9 +12,6 @@ four labels w h p e = ap length e
 pub returns-then-is_inside : goal.returns-then-is_inside
 returns-then-is_inside c = sym (c.is_inside.ensures c.if-is_inside.true _ _ _)
 
-pub loop-label-init : goal.loop-label-init
-loop-label-init c = refl
-
 pub note-near-requires : goal.note-near-requires
 note-near-requires c =
     let f = c.four_labels-label-items in
