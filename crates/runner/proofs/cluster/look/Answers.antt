@@ -1,4 +1,4 @@
-use Rattle.std.proofs.Common.{◌≡◌, refl, sym, ap, List, ℕ, map, length, arith}
+use Rattle.std.proofs.Common.{◌≡◌, sym, ap, List, ℕ, map, length, arith}
 use Rattle.rules.specs.Grid.{sides}
 use Rattle.runner.specs.Code.Neighbours.{place_label, noted_four}
 use Rattle.runner.proofs.Nearest.{some-noted, one-noted, all-noted}

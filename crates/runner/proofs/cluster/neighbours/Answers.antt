@@ -6,10 +6,9 @@ use mathlib.Core.Option.{none as off}
 use Prim.Native.Nat.{ℕ, zero, suc, ◌+◌, ◌-◌, ◌*◌, ◌≤◌, ◌<◌}
 use native.Mathlib.Omega.{arith}
 use lib.ListN.{length, get_or}
-use borrow.Author.Tests.{ne_eqb}
 use Rattle.rules.specs.Color.{Color, average}
 use Rattle.rules.specs.Grid.{sides}
-use Rattle.rules.specs.Layout.{slot_width, first_pixel_place, pixel_count_place}
+use Rattle.rules.specs.Layout.{slot_width, pixel_count_place}
 use Rattle.rules.specs.Code.Bounds.{capacity}
 use Rattle.rules.specs.Stage2.{labels_at, labels_around}
 use Rattle.rules.proofs.Connected.{AllSome}
