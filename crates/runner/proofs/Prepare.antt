@@ -52,8 +52,8 @@ largest-end : (cs : List Cluster) (k : ℕ) → length cs ≤ k → largest (dro
 unfolding largest
 largest-end cs k l = ap largest (drop_of_length-le cs l)
 
-pub prepare-next : {n : ℕ} {B₀ Q₀ B Q B' Q' : List ℕ} {k r r' : ℕ} → Preparing n B₀ Q₀ B Q k r → k < n → length B' ≡ length B → PreparedSlot k r B Q B' Q' r'
-    → Preparing n B₀ Q₀ B' Q' (k + 1) r'
+pub prepare-next : {n : ℕ} {B₀ Q₀ B Q B' Q' : List ℕ} {k r r' : ℕ} → Preparing n B₀ Q₀ B Q k r → k < n → length B' ≡ length B → PreparedSlot k B Q B' Q' r'
+    → Preparing n B₀ Q₀ B' Q' (k + 1) (max r r')
 prepare-next {n} {B₀} {Q₀} {B} {Q} {B'} {Q'} {k} {r} {r'} I l same' P = record {
   inside = omega arith;
   wide = omega (arith, I.wide, long');
@@ -65,7 +65,7 @@ prepare-next {n} {B₀} {Q₀} {B} {Q} {B'} {Q'} {k} {r} {r'} I l same' P = reco
   rest = λ j m. ap (λ q. get_or q j 0) P.queue ∙ get_or-set_other Q k j (queue_key (head_at B k).count) 0 (λ z. omega arith) ∙ I.rest j (omega arith);
   most = λ s t₀ H. omega (
     arith,
-    P.larger,
+    P.count,
     I.most s t₀ H,
     prepare-count s k (I.state s t₀ H) l,
     largest-from s.clusters k (omega (arith, H.slots)),

@@ -17,14 +17,6 @@ use super::{outputs, stage1, stage2};
 use crate::{Buffers, RunnerConfig};
 use image::{Counts, Size};
 
-// A shift of 0 to 7 as a number.
-fn shift_of(shift: i32) -> u32
-    requires { bad_shift shift ≡ false }
-    ensures { shift ≡ pos result }
-{
-    shift as u32
-}
-
 // Labels, links and marks of zeros.
 fn blank(b: &mut Builder, work: &mut Work)
     ensures lists { SameLists b.old b.new }
@@ -107,7 +99,7 @@ pub(crate) fn accepted(o: RunnerConfig, size: Size, image: &[u8], buffers: &mut 
 {
     let input = Input {
         o,
-        shift: shift_of(o.is_same_color_a),
+        shift: o.is_same_color_a as u32,
         image,
         w: size.w,
         h: size.h,

@@ -55,36 +55,20 @@ fn prepare_stage_2(table: &mut [u32], queue: &mut [u32], n: u32) -> u32
 {
     let mut largest = 0;
     for k in 0..n {
-        largest = prepare_slot(table, queue, k, largest);
+        largest = largest.max(prepare_slot(table, queue, k));
     }
     largest
 }
 
-// The same of slot k; answers the larger of its pixel count and `largest`.
-fn prepare_slot(table: &mut [u32], queue: &mut [u32], k: u32, largest: u32) -> u32
+// The same of slot k; answers its pixel count.
+fn prepare_slot(table: &mut [u32], queue: &mut [u32], k: u32) -> u32
     requires { (InTable k table.old) × (k < length queue.old) }
-    ensures { PreparedSlot k largest table.old queue.old
-        table.new queue.new result }
+    ensures { PreparedSlot k table.old queue.old table.new queue.new result }
 {
     let s = slot::load_head(table, k);
     slot::save_residue(table, k, s.sum);
-    queue[k as usize] = key_of(s.count);
-    largest.max(s.count)
-}
-
-// The key of a slot of so many pixels.
-fn key_of(count: u32) -> u32
-    ensures { result ≡ queue_key count }
-{
-    if count == 0 { queue::NONE } else { count }
-}
-
-// Whether d exceeds the signed number z.
-fn exceeds(d: u32, z: i32) -> bool
-    requires { d < 2147483648 }
-    ensures { result ≡ Rattle.rules.specs.Color.exceeds d z }
-{
-    z < d as i32
+    queue[k as usize] = if s.count == 0 { queue::NONE } else { s.count };
+    s.count
 }
 
 // Whether the cluster of an entry may stay a patch, after `patch_good` of runner.rs: a boundary smaller than the area
@@ -120,7 +104,7 @@ fn deepens(b: &Builder, input: &Input, e: Entry, diff: u32) -> bool
         (get_or b.now.table.now (slot_width * e.slot + first_pixel_place) 0) e.key diff }
 {
     let o = &input.o;
-    o.hierarchical == HIERARCHICAL_MAX && exceeds(diff, o.deepen_diff) && patch_good(b, input, e)
+    o.hierarchical == HIERARCHICAL_MAX && o.deepen_diff < diff as i32 && patch_good(b, input, e)
 }
 
 // Cluster k is put out.

@@ -32,12 +32,11 @@ pub record Carried (size : ℕ) (s : State) (keys t₀ L K B E Q M S : List ℕ)
   pub entries : m ≡ length s.outputs
   pub staged : (i : ℕ) → i < m → get_or S i 0 ≡ get_or s.outputs i 0
 
--- table B and queue Q after slot k is prepared: its residue is its sum, its key its pixel count; r is the larger of
--- that count and `most`
-pub record PreparedSlot (k most : ℕ) (B Q B' Q' : List ℕ) (r : ℕ) : Type 0 where
+-- table B and queue Q after slot k is prepared: its residue is its sum, its key its pixel count, which is r
+pub record PreparedSlot (k : ℕ) (B Q B' Q' : List ℕ) (r : ℕ) : Type 0 where
   pub table : B' ≡ saved_residue B k (head_at B k).sum
   pub queue : Q' ≡ set Q k (queue_key (head_at B k).count)
-  pub larger : r ≡ max most (head_at B k).count
+  pub count : r ≡ (head_at B k).count
 
 -- table B and queue Q after the n slots of a state that B holds are prepared for stage 2; r is the largest pixel count
 pub record Prepared (n : ℕ) (B Q B' Q' : List ℕ) (r : ℕ) : Type 0 where

@@ -1,4 +1,4 @@
-use Rattle.std.proofs.Common.{◌≡◌, refl, sym, ap, List, ℕ, map, length, arith}
+use Rattle.std.proofs.Common.{◌≡◌, sym, ap, List, ℕ, map, length, arith}
 use Rattle.rules.specs.Grid.{sides}
 use Rattle.runner.specs.Code.Neighbours.{place_label, noted_four}
 use Rattle.runner.proofs.Nearest.{some-noted, one-noted, all-noted}
@@ -11,9 +11,6 @@ four labels w h p e = ap length e
 
 pub returns-then-is_inside : goal.returns-then-is_inside
 returns-then-is_inside c = sym (c.is_inside.ensures c.if-is_inside.true _ _ _)
-
-pub loop-label-init : goal.loop-label-init
-loop-label-init c = refl
 
 pub note-near-requires : goal.note-near-requires
 note-near-requires c =

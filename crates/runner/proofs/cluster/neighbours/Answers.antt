@@ -6,10 +6,9 @@ use mathlib.Core.Option.{none as off}
 use Prim.Native.Nat.{ℕ, zero, suc, ◌+◌, ◌-◌, ◌*◌, ◌≤◌, ◌<◌}
 use native.Mathlib.Omega.{arith}
 use lib.ListN.{length, get_or}
-use borrow.Author.Tests.{ne_eqb}
 use Rattle.rules.specs.Color.{Color, average}
 use Rattle.rules.specs.Grid.{sides}
-use Rattle.rules.specs.Layout.{slot_width, first_pixel_place, pixel_count_place}
+use Rattle.rules.specs.Layout.{slot_width, pixel_count_place}
 use Rattle.rules.specs.Code.Bounds.{capacity}
 use Rattle.rules.specs.Stage2.{labels_at, labels_around}
 use Rattle.rules.proofs.Connected.{AllSome}
@@ -23,21 +22,6 @@ use Rattle.runner.proofs.cluster.neighbours.Goals as goal
 use Rattle.runner.proofs.cluster.neighbours.Goals.{In-loop}
 
 module _ (labels links table marks : List ℕ) (w h k visit : ℕ) (small : w * h ≤ capacity) (S : Scannable labels links table marks w h k visit) where
-  begins : Going labels links table marks w h k visit (record { marks = marks; nearest = nearest_of (diff_at table k) [] }) (get_or table (slot_width * k + first_pixel_place) 0) (get_or table (slot_width * k + pixel_count_place) 0)
-  begins = record {
-    kept = refl;
-    readable = S.readable;
-    few = omega (arith, S.few, small);
-    found = [];
-    holds = record {
-      rising = tt;
-      marked = λ j. ne_eqb (get_or marks j 0) visit (omega (arith, S.earlier j));
-      low = λ j. omega (arith, S.earlier j);
-      right = refl;
-    };
-    rest = refl;
-  }
-
   -- the labels at places of the image
   notable : (is : List (Option ℕ)) → AllSome (λ q. q < w * h) is → (i : ℕ) → get_or (map (place_label labels) is) i 0 ≢ 0 → Notable table (length marks) (get_or (map (place_label labels) is) i 0)
   notable [] a i n = absurd (n refl)
