@@ -15,28 +15,34 @@ use super::slot;
 use color::Color;
 use image::layout;
 
+// A scan for neighbours: what it reads, its number, the label of the cluster, and the cluster's colour.
+#[derive(Clone, Copy)]
+struct Visit<'a> {
+    labels: &'a [u32],
+    table: &'a [u32],
+    number: u32,
+    own: u32,
+    mine: Color,
+}
+
 // The labels up, down, left and right of pixel p, 0 off the image.
 #[tactic(auto, unfolding(rules::specs::Grid::sides))]
-fn four_labels(b: &Builder, input: &Input, p: u32) -> [u32; 4]
-    requires { (p < input.now.w * input.now.h) × (input.now.w * input.now.h ≤ length b.now.labels.now) }
-    ensures { result ≡ map (place_label b.now.labels.now) (sides input.now.w input.now.h p) }
+fn four_labels(labels: &[u32], input: &Input, p: u32) -> [u32; 4]
+    requires { (p < input.now.w * input.now.h) × (input.now.w * input.now.h ≤ length labels.now) }
+    ensures { result ≡ map (place_label labels.now) (sides input.now.w input.now.h p) }
 {
     let (w, h) = (input.w, input.h);
     let x = p % w;
     [
-        if w <= p {
-            b.labels[(p - w) as usize]
-        } else {
-            0
-        },
+        if w <= p { labels[(p - w) as usize] } else { 0 },
         if p + w < w * h {
-            b.labels[(p + w) as usize]
+            labels[(p + w) as usize]
         } else {
             0
         },
-        if 0 < x { b.labels[(p - 1) as usize] } else { 0 },
+        if 0 < x { labels[(p - 1) as usize] } else { 0 },
         if x + 1 < w {
-            b.labels[(p + 1) as usize]
+            labels[(p + 1) as usize]
         } else {
             0
         },
@@ -80,68 +86,60 @@ impl Nearest {
     }
 }
 
-// A scan for neighbours: its number, the label of the cluster, and the cluster's colour.
-#[derive(Clone, Copy)]
-struct Visit {
-    number: u32,
-    own: u32,
-    mine: Color,
-}
-
 // The label l counts as a neighbour if it is neither 0 nor own, nor marked in this visit.
 #[tactic(auto, unfolding(crate::specs::Code::Neighbours::noted))]
-fn note(b: &Builder, marks: &mut [u32], v: Visit, l: u32, found: Nearest) -> Nearest
-    requires notable { l ≢ 0 → Notable b.now.table.now (length marks.old) l }
+fn note(v: Visit, marks: &mut [u32], l: u32, found: Nearest) -> Nearest
+    requires notable { l ≢ 0 → Notable v.table.now (length marks.old) l }
     requires count_bound { found.count < 4294967295 }
     ensures { record { marks = marks.new; nearest = result }
-        ≡ noted (diff_from b.now.table.now (color_of v.mine)) v.own v.number l
+        ≡ noted (diff_from v.entry.table.now (color_of v.entry.mine)) v.entry.own v.entry.number l
         (record { marks = marks.old; nearest = found }) }
 {
     if l == 0 || l == v.own || marks[l as usize] == v.number {
         return found;
     }
     marks[l as usize] = v.number;
-    found.with(l, color::color_diff(v.mine, color(b.table, l)))
+    found.with(l, color::color_diff(v.mine, color(v.table, l)))
 }
 
 // Whether the pixels before and after p, and those a row above and below it, are all of the cluster: then p has no
 // neighbour to note, wherever the image ends. It saves the division by w for most pixels.
-fn is_inside(b: &Builder, input: &Input, own: u32, p: u32) -> bool
-    requires { p < length b.now.labels.now }
+fn is_inside(v: Visit, input: &Input, p: u32) -> bool
+    requires { p < length v.labels.now }
     ensures { result ≡ true → (key : ℕ → ℕ) (visit : ℕ) (s : Scan)
-        → noted_four key own visit
-        (map (place_label b.now.labels.now) (sides input.now.w input.now.h p)) s ≡ s }
+        → noted_four key v.entry.own visit
+        (map (place_label v.entry.labels.now) (sides input.now.w input.now.h p)) s ≡ s }
 {
     let i = p as usize;
     let row = input.w as usize;
-    if i < row || b.labels.len() <= i + row {
+    if i < row || v.labels.len() <= i + row {
         return false;
     }
-    (b.labels[i - row] == own)
-        & (b.labels[i - 1] == own)
-        & (b.labels[i + 1] == own)
-        & (b.labels[i + row] == own)
+    (v.labels[i - row] == v.own)
+        & (v.labels[i - 1] == v.own)
+        & (v.labels[i + 1] == v.own)
+        & (v.labels[i + row] == v.own)
 }
 
 // The labels around pixel p, in turn.
-fn look(b: &Builder, marks: &mut [u32], input: &Input, v: Visit, p: u32, found: Nearest) -> Nearest
-    requires pixel { (p < input.now.w * input.now.h) × (input.now.w * input.now.h ≤ length b.now.labels.now) }
+fn look(v: Visit, marks: &mut [u32], input: &Input, p: u32, found: Nearest) -> Nearest
+    requires pixel { (p < input.now.w * input.now.h) × (input.now.w * input.now.h ≤ length v.labels.now) }
     requires notable { (i : ℕ) → i < 4
-        → get_or (map (place_label b.now.labels.now) (sides input.now.w input.now.h p)) i 0 ≢ 0
-        → Notable b.now.table.now (length marks.old)
-        (get_or (map (place_label b.now.labels.now) (sides input.now.w input.now.h p)) i 0) }
+        → get_or (map (place_label v.labels.now) (sides input.now.w input.now.h p)) i 0 ≢ 0
+        → Notable v.table.now (length marks.old)
+        (get_or (map (place_label v.labels.now) (sides input.now.w input.now.h p)) i 0) }
     requires count_bound { found.count + 4 ≤ 4294967295 }
     ensures { record { marks = marks.new; nearest = result }
-        ≡ noted_four (diff_from b.now.table.now (color_of v.mine)) v.own v.number
-        (map (place_label b.now.labels.now) (sides input.now.w input.now.h p))
+        ≡ noted_four (diff_from v.entry.table.now (color_of v.entry.mine)) v.entry.own v.entry.number
+        (map (place_label v.entry.labels.now) (sides input.now.w input.now.h p))
         (record { marks = marks.old; nearest = found }) }
 {
-    if is_inside(b, input, v.own, p) {
+    if is_inside(v, input, p) {
         return found;
     }
     let mut near = found;
-    for label in four_labels(b, input, p) {
-        near = note(b, marks, v, label, near);
+    for label in four_labels(v.labels, input, p) {
+        near = note(v, marks, label, near);
     }
     near
 }
@@ -158,7 +156,10 @@ pub(crate) fn neighbours(
     ensures { Found b.now.labels.now b.now.links.now b.now.table.now input.now.w input.now.h k visit result
         marks.new }
 {
+    let links = &*b.links;
     let v = Visit {
+        labels: &*b.labels,
+        table: &*b.table,
         number: visit,
         own: k,
         mine: color(b.table, k),
@@ -167,8 +168,8 @@ pub(crate) fn neighbours(
     let mut found = Nearest::default();
     for _ in 0..b.count_of(k) {
         let p = at - 1;
-        found = look(b, marks, input, v, p, found);
-        at = b.links[p as usize];
+        found = look(v, marks, input, p, found);
+        at = links[p as usize];
     }
     found
 }

@@ -7,4 +7,4 @@ use Rattle.runner.proofs.cluster.look.Given as goal
 -- the labels before this one are noted
 abbrev pub invariant-loop-label : goal.invariant-loop-label
 invariant-loop-label l = ◌≡◌ {A = Scan} (record { marks = l.marks; nearest = l.near })
-    (each (take l.label-index l.label-items) (noted (diff_from l.b.table.now (color_of l.v.mine)) l.v.own l.v.number) (record { marks = l.initial.marks; nearest = l.initial.near }))
+    (each (take l.label-index l.label-items) (noted (diff_from l.v.table.now (color_of l.v.mine)) l.v.own l.v.number) (record { marks = l.initial.marks; nearest = l.initial.near }))

@@ -81,8 +81,8 @@ look-found-requires c =
     let a = asks _ _ _ _ _ _ _ _ c.args.input.now.given.small S _ _ _ _ (omega arith) refl c.loop.invariant in
     record { pixel = (omega (arith, at.some, at.within), S.labelled); notable = a.0; count_bound = a.1 }
 
-pub bounds-b-p : goal.bounds-b-p
-bounds-b-p c = omega (arith, (here (goal.at.bounds-b-p c).In-loop).some, (here (goal.at.bounds-b-p c).In-loop).within, c.requires.linked)
+pub bounds-links-p : goal.bounds-links-p
+bounds-links-p c = omega (arith, (here (goal.at.bounds-links-p c).In-loop).some, (here (goal.at.bounds-links-p c).In-loop).within, c.requires.linked)
 
 pub loop-preserved : goal.loop-preserved
 loop-preserved c =
