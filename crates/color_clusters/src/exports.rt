@@ -219,14 +219,14 @@ pub fn color_clusters_run_and_paint(
         key_a,
         action,
     );
-    let mut buffers = Buffers {
+    let mut lent = Buffers {
         labels,
         links,
         table,
         outputs,
         work,
     };
-    Answer::from(crate::run_and_paint(o, Size { w, h }, image, &mut buffers, picture))
+    Answer::from(crate::run_and_paint(o, Size { w, h }, image, &mut lent, picture))
 }
 
 // `container::to_color_image`.

@@ -4,8 +4,7 @@
 
 pub mod exports;
 
-ghost use Rattle.std.specs.Prelude.{◌≡◌, ◌*◌, length, IfOk};
-ghost use Rattle.rules.specs.Refusals.{run_and_paint_answer};
+ghost use Rattle.std.specs.Prelude.{◌≡◌, ◌*◌, IfOk};
 ghost use Rattle.rules.specs.Run.{run};
 ghost use Rattle.rules.specs.Picture.{paint};
 ghost use Rattle.rules.specs.Calls.{with_picture, run_and_paint_number, run_and_paint_call};
