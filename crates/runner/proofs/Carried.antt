@@ -40,7 +40,7 @@ module _ {size : ℕ} {s : State} {keys t₀ L K B E Q M S : List ℕ} {n m mark
           ∙ sym (get_or-append s.outputs (k ∷ []) 0 i (omega (arith, C.entries)))
 
   -- the key of slot k becomes v; of a slot that is no longer pending v is 0
-  pub carried-queue : (Q' : List ℕ) → length Q' ≡ length Q → (k v : ℕ) → k < n → n ≤ size + 1 → v < 4294967295 → KeySet Q Q' n (size + 1) k (queue_key v) → Carried size s (set keys k v) t₀ L K B E Q' M S n m marks
+  pub carried-queue : (Q' : List ℕ) → length Q' ≡ length Q → (k v : ℕ) → k < n → n ≤ size + 1 → v < 4294967295 → KeySet Q Q' n k (queue_key v) → Carried size s (set keys k v) t₀ L K B E Q' M S n m marks
   carried-queue Q' e k v inside few small N = record {
     queue-long = e ∙ C.queue-long;
     marks-long = C.marks-long;
@@ -48,7 +48,7 @@ module _ {size : ℕ} {s : State} {keys t₀ L K B E Q M S : List ℕ} {n m mark
     rep = C.rep;
     slots = C.slots;
     tree = N.tree;
-    keyed = keyed-set Q Q' n (size + 1) keys C.keyed few k v inside (omega (arith, C.queue-long)) small N.keys;
+    keyed = keyed-set Q Q' n keys C.keyed k v inside (omega (arith, C.queue-long)) small N.keys;
     marked = C.marked;
     entries = C.entries;
     staged = C.staged;

@@ -24,15 +24,15 @@ stored-pos : (v : ℕ) → queue_key v ≢ 4294967295 → 0 < v
 stored-pos zero d = absurd (d refl)
 stored-pos (suc v) d = omega arith
 
-stored-zero : (v : ℕ) → v < 4294967295 → queue_key v ≡ 4294967295 → v ≡ 0
+stored-zero : (v : ℕ) → v < 4294967295 → 4294967295 ≤ queue_key v → v ≡ 0
 stored-zero zero l e = refl
 stored-zero (suc v) l e = absurd (omega arith)
 
 -- ---- the pick
 
-module _ (queue : List ℕ) (n room : ℕ) (keys : List ℕ) (K : Keyed queue n keys) where
+module _ (queue : List ℕ) (n : ℕ) (keys : List ℕ) (K : Keyed queue n keys) where
   -- a first slot that is pending is the pick, with the rules' key
-  pub first_some : (r : Entry) (F : First queue n room r) → r.key ≢ 4294967295 → (next_pending keys ≡ some r.slot) × (get_or keys r.slot 0 ≡ r.key)
+  pub first_some : (r : Entry) (F : First queue n r) → r.key ≢ 4294967295 → (next_pending keys ≡ some r.slot) × (get_or keys r.slot 0 ≡ r.key)
   first_some r F d = (pick-least keys r.slot (omega (arith, F.in-range, K.wide), (λ z. omega (arith, z, pos)), λ j l m. least j (omega (arith, K.wide)) m), same)
     where
       at : r.key ≡ queue_key (get_or keys r.slot 0)
@@ -51,21 +51,21 @@ module _ (queue : List ℕ) (n room : ℕ) (keys : List ℕ) (K : Keyed queue n 
           own = K.keyed j l ∙ stored_some (get_or keys j 0) (elim (dec_lt 0 (get_or keys j 0)) [ yes p ↦ p | no p ↦ absurd (m (omega arith)) ])
 
   -- where every key is NONE no slot is pending
-  pub first-none : ((j : ℕ) → j < n → get_or queue j 0 ≡ 4294967295) → next_pending keys ≡ off
+  pub first-none : ((j : ℕ) → j < n → 4294967295 ≤ get_or queue j 0) → next_pending keys ≡ off
   first-none none = pick-none keys (λ j. elim (dec_lt j n) [
-    | yes l ↦ stored-zero (get_or keys j 0) (K.below j l) (sym (K.keyed j l) ∙ none j l)
+    | yes l ↦ stored-zero (get_or keys j 0) (K.below j l) (omega (arith, K.keyed j l, none j l))
     | no l ↦ get_or-eq_default keys 0 {n = j} (omega (arith, K.wide))
   ])
 
 -- ---- the keys of the queue and of the rules change together
 
-module _ (queue exit : List ℕ) (n room : ℕ) (keys : List ℕ) (K : Keyed queue n keys) (fits : n ≤ room) where
+module _ (queue exit : List ℕ) (n : ℕ) (keys : List ℕ) (K : Keyed queue n keys) where
   -- one key changed; of a slot that is no longer pending v is 0
-  pub keyed-set : (k v : ℕ) → k < n → room ≤ length queue → v < 4294967295 → ((x : ℕ) → x < room → get_or exit x 0 ≡ get_or (set queue k (queue_key v)) x 0) → Keyed exit n (set keys k v)
+  pub keyed-set : (k v : ℕ) → k < n → n ≤ length queue → v < 4294967295 → ((x : ℕ) → x < n → get_or exit x 0 ≡ get_or (set queue k (queue_key v)) x 0) → Keyed exit n (set keys k v)
   keyed-set k v b long small h = record {
     wide = simp length-set K.wide;
     below = λ j l. below j l (ℕ_discrete j k);
-    keyed = λ j l. h j (omega arith) ∙ keyed j l (ℕ_discrete j k);
+    keyed = λ j l. h j l ∙ keyed j l (ℕ_discrete j k);
   }
     where
       new : get_or (set keys k v) k 0 ≡ v

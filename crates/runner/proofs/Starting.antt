@@ -16,7 +16,7 @@ use Rattle.rules.specs.Layout.{slot_width}
 use Rattle.rules.specs.Code.Bounds.{count_bound}
 use Rattle.runner.specs.Code.Given.{Given}
 use Rattle.runner.specs.Code.Rep.{Table, slots_of}
-use Rattle.runner.specs.Code.Queue.{Sized, Built, queue_key}
+use Rattle.runner.specs.Code.Queue.{Built, queue_key}
 use Rattle.runner.specs.Code.Stage2.{Prepared, Between, Entered}
 use Rattle.runner.proofs.RepStage2.{rep-prepare}
 
@@ -39,14 +39,11 @@ module _ {o : RunnerConfig} {w h : ℕ} {image : List ℕ} {shift : ℕ} (G : Gi
   table_fits : slot_width * n ≤ length t₀
   table_fits = omega (arith, few-slots, N.table_fits)
 
-  pub preparing-fits : (slot_width * n ≤ length B) × (n ≤ length Q) × (n ≤ count_bound)
+  pub preparing-fits : (slot_width * n ≤ length B) × (3 * n ≤ length Q) × (n ≤ count_bound)
   preparing-fits = (omega (arith, N.rep.tabled.long, table_fits), omega (arith, N.queue-long, few-slots), omega (arith, few-slots, G.small))
 
-  module _ {B' Q₁ : List ℕ} {top : ℕ} (P : Prepared n B Q B' Q₁ top) (e : length Q₁ ≡ length Q) where
-    pub building : Sized n (w * h + 1) (length Q₁)
-    building = record { some = some-slots; within = few-slots; fits = omega (arith, e, N.queue-long); small = omega (arith, G.small) }
-
-    module _ {Q₂ : List ℕ} (D : Built Q₁ Q₂ n (w * h + 1)) (d : length Q₂ ≡ length Q₁) where
+  module _ {B' Q₁ : List ℕ} {n₁ top : ℕ} (P : Prepared n B Q B' Q₁ top) (z : n₁ ≡ n) (e : length Q₁ ≡ length Q) where
+    module _ {Q₂ : List ℕ} {n₂ : ℕ} (D : Built Q₁ Q₂ n₁) (y : n₂ ≡ n₁) (d : length Q₂ ≡ length Q₁) where
       key : (j : ℕ) → get_or (map area (prepare_stage2 s).clusters) j 0 ≡ area (cluster (prepare_stage2 s) j)
       key j = get_or-map area (prepare_stage2 s).clusters j new_cluster
 
@@ -61,9 +58,9 @@ module _ {o : RunnerConfig} {w h : ℕ} {image : List ℕ} {shift : ℕ} (G : Gi
       held : Table n (slots_of s) t₀ B
       held = subst (λ x. Table x (slots_of s) t₀ B) (sym N.slots) N.rep.tabled
 
-      pub started : Between o w h image t₀ L K B' E Q₂ M S (record { n = n; m = 0; turns = 0; largest = top })
+      pub started : Between o w h image t₀ L K B' E Q₂ M S n₂ (record { m = 0; turns = 0; largest = top })
       unfolding turns start prepare_stage2
-      started = record {
+      started = rw (y, z) (record {
         table_fits = N.table_fits;
         carried = record {
           queue-long = d ∙ e ∙ N.queue-long;
@@ -71,15 +68,15 @@ module _ {o : RunnerConfig} {w h : ℕ} {image : List ℕ} {shift : ℕ} (G : Gi
           staged-long = N.staged-long;
           rep = rep-prepare N.rep (subst (λ x. Table x (slots_of (prepare_stage2 s)) t₀ B') N.slots (P.state s t₀ N.slots table_fits held));
           slots = N.slots ∙ sym slots;
-          tree = D.tree;
+          tree = rw z at D.tree;
           keyed = record {
             wide = length-map (prepare_stage2 s).clusters area ∙ slots ∙ sym N.slots;
             below = λ j l. omega (arith, key j, (turns-ranged image G.bytes o w h 0).areas j, G.small);
-            keyed = λ j l. D.keys j (omega (arith, few-slots)) ∙ P.keys s t₀ N.slots table_fits held j l ∙ ap queue_key (sym (key j ∙ area_same j));
+            keyed = λ j l. D.keys j (omega (arith, z)) ∙ P.keys s t₀ N.slots table_fits held j l ∙ ap queue_key (sym (key j ∙ area_same j));
           };
           marked = λ j. omega (arith, N.marks j);
           entries = sym (ap length (early o w h image).quiet);
           staged = λ i l. absurd (omega arith);
         };
         top = P.largest s t₀ N.slots table_fits held ∙ sym (largest-same s.clusters);
-      }
+      })

@@ -12,6 +12,7 @@ ghost use Rattle.runner.specs.Code.Calls.{Blanked, CanRun, Lent, Clustered};
 
 use super::builder::Builder;
 use super::input::Input;
+use super::queue::Queue;
 use super::stage2::Work;
 use super::{outputs, stage1, stage2};
 use crate::{Buffers, RunnerConfig};
@@ -52,7 +53,7 @@ fn both_stages(b: &mut Builder, work: &mut Work, outputs: &mut [u32], input: &In
     let n = label_image(b, work, input);
     let t = stage2::stage_2(b, work, input, n);
     let m = outputs::drop_empty(b, work, outputs, t.m);
-    Counts { n: t.n, m }
+    Counts { n, m }
 }
 
 // The same over the buffers, with the work buffer cut into its parts.
@@ -78,6 +79,10 @@ fn clustered(
         links,
         table,
         ends,
+    };
+    let queue = Queue {
+        numbers: queue,
+        n: 0,
     };
     let mut parts = Work {
         queue,

@@ -24,14 +24,19 @@ pub record SameLists (old new : Builder) : Type 0 where
 -- f of labels, links, table and ends, queue, marks and staged outputs
 abbrev pub of_work : {A : Type 1} → (List ℕ → List ℕ → List ℕ → List ℕ → List ℕ → List ℕ → List ℕ → A)
     → Builder → Work → A
-of_work f b w = of_lists f b w.queue.now w.marks.now w.staged.now
+of_work f b w = of_lists f b w.queue.numbers.now w.marks.now w.staged.now
+
+-- f of the same, and of the number of slots in the queue
+abbrev pub of_slots : {A : Type 1} → (List ℕ → List ℕ → List ℕ → List ℕ → List ℕ → List ℕ → List ℕ → ℕ → A)
+    → Builder → Work → A
+of_slots f b w = of_work f b w w.queue.n
 
 -- the same three slices are lent after a call, as long as before
 pub record SameWork (old new : Work) : Type 0 where
-  pub queue : new.queue.ghost_name ≡ old.queue.ghost_name
+  pub queue : new.queue.numbers.ghost_name ≡ old.queue.numbers.ghost_name
   pub marks : new.marks.ghost_name ≡ old.marks.ghost_name
   pub staged : new.staged.ghost_name ≡ old.staged.ghost_name
-  pub queue_long : length new.queue.now ≡ length old.queue.now
+  pub queue_long : length new.queue.numbers.now ≡ length old.queue.numbers.now
   pub marks_long : length new.marks.now ≡ length old.marks.now
   pub staged_long : length new.staged.now ≡ length old.staged.now
 

@@ -14,7 +14,7 @@ use Rattle.runner.specs.declared.stage2.Turns.{Turns}
 use Rattle.runner.specs.declared.cluster.Nearest.{Nearest}
 use Rattle.runner.specs.Code.Slots.{head_at, saved_residue}
 use Rattle.runner.specs.Code.Rep.{Table, Rep, slots_of}
-use Rattle.runner.specs.Code.Queue.{Sized, Tree, KeySet, Keyed, queue_key}
+use Rattle.runner.specs.Code.Queue.{Tree, KeySet, Keyed, queue_key}
 use Rattle.runner.specs.Code.Neighbours.{nearest_of}
 use Rattle.runner.specs.Code.Interior.{some_inside}
 
@@ -26,7 +26,7 @@ pub record Carried (size : ℕ) (s : State) (keys t₀ L K B E Q M S : List ℕ)
   pub staged-long : length S ≡ 2 * (size + 1)
   pub rep : Rep size s t₀ L K B E
   pub slots : n ≡ length s.clusters
-  pub tree : Tree Q n (size + 1)
+  pub tree : Tree Q n
   pub keyed : Keyed Q n keys
   pub marked : (j : ℕ) → get_or M j 0 ≤ turns
   pub entries : m ≡ length s.outputs
@@ -65,7 +65,7 @@ deepens_at o image labels links w h k first area d =
 
 -- one more output
 abbrev pub one_put : Turns → Turns
-one_put t = record { n = t.n; m = t.m + 1; turns = t.turns; largest = t.largest }
+one_put t = record { m = t.m + 1; turns = t.turns; largest = t.largest }
 
 -- the staged outputs have room for one more, and can be counted
 pub record CanPut (m : ℕ) (S : List ℕ) : Type 0 where
@@ -82,19 +82,16 @@ abbrev pub goes_out : RunnerConfig → ℕ → ℕ → Bool
 goes_out o largest area = leb largest area || discards o
 
 -- slot `to`, one of n, can take its pixel count for its key
-pub record CanGrow (room n to : ℕ) (B Q : List ℕ) : Type 0 where
+pub record CanGrow (n to : ℕ) (B Q : List ℕ) : Type 0 where
   pub slot : slot_width * to + slot_width ≤ length B
-  pub sized : Sized n room (length Q)
   pub inside : to < n
-  pub tree : Tree Q n room
+  pub tree : Tree Q n
 
 -- it has done so, and may be the largest
-pub record Grown (room to : ℕ) (t r : Turns) (B Q Q' : List ℕ) : Type 0 where
-  pub wide : length Q' ≡ length Q
-  pub keyed : KeySet Q Q' t.n room to (get_or B (slot_width * to + pixel_count_place) 0)
+pub record Grown (n to : ℕ) (t r : Turns) (B Q Q' : List ℕ) : Type 0 where
+  pub keyed : KeySet Q Q' n to (get_or B (slot_width * to + pixel_count_place) 0)
   pub turns : r
       ≡ record {
-        n = t.n;
         m = t.m;
         turns = t.turns;
         largest = max t.largest
@@ -113,10 +110,10 @@ visit_at o w h image i k =
     rules.visit o w h (area (cluster (queue_at o w h image i).now k)) k (queue_at o w h image i).now
 
 -- the buffers hold what the rules have before turn i, and t the largest pixel count
-pub record Between (o : RunnerConfig) (w h : ℕ) (image t₀ L K B E Q M S : List ℕ) (t : Turns) : Type 0 where
+pub record Between (o : RunnerConfig) (w h : ℕ) (image t₀ L K B E Q M S : List ℕ) (n : ℕ) (t : Turns) : Type 0 where
   pub table_fits : slot_width * (w * h + 1) ≤ length t₀
   pub carried : Carried (w * h) (queue_at o w h image t.turns).now (queue_at o w h image t.turns).keys t₀ L K B E Q M S
-      t.n t.m t.turns
+      n t.m t.turns
   pub top : t.largest ≡ order.largest (queue_at o w h image t.turns).now.clusters
 
 -- slot k, of a pixels, is the one to be visited in turn i
@@ -125,12 +122,12 @@ pub record Chosen (o : RunnerConfig) (w h : ℕ) (image : List ℕ) (i k a : ℕ
   pub count : a ≡ area (cluster (queue_at o w h image i).now k)
 
 -- it is being visited, and is no longer pending; no mark is above `marks`
-pub record Visiting (o : RunnerConfig) (w h : ℕ) (image t₀ L K B E Q M S : List ℕ) (t : Turns) (k a marks : ℕ)
+pub record Visiting (o : RunnerConfig) (w h : ℕ) (image t₀ L K B E Q M S : List ℕ) (n : ℕ) (t : Turns) (k a marks : ℕ)
     : Type 0 where
   pub table_fits : slot_width * (w * h + 1) ≤ length t₀
   pub chosen : Chosen o w h image t.turns k a
   pub carried : Carried (w * h) (queue_at o w h image t.turns).now (set (queue_at o w h image t.turns).keys k 0)
-      t₀ L K B E Q M S t.n t.m marks
+      t₀ L K B E Q M S n t.m marks
   pub top : t.largest ≡ order.largest (queue_at o w h image t.turns).now.clusters
 
 -- it is not above `hierarchical`, and near is what the rules have of its neighbours, of which there are some
@@ -140,17 +137,17 @@ pub record Aimed (o : RunnerConfig) (w h : ℕ) (image : List ℕ) (i k : ℕ) (
   pub some : 0 < near.count
 
 -- it deepens into the nearest of them
-pub record Deepening (o : RunnerConfig) (w h : ℕ) (image t₀ L K B E Q M S : List ℕ) (t : Turns) (k a : ℕ)
+pub record Deepening (o : RunnerConfig) (w h : ℕ) (image t₀ L K B E Q M S : List ℕ) (n : ℕ) (t : Turns) (k a : ℕ)
     (near : Nearest) : Type 0 where
-  pub visiting : Visiting o w h image t₀ L K B E Q M S t k a (t.turns + 1)
+  pub visiting : Visiting o w h image t₀ L K B E Q M S n t k a (t.turns + 1)
   pub aimed : Aimed o w h image t.turns k near
   pub deepens : rules.deepens o w h (queue_at o w h image t.turns).now k near.target ≡ true
 
 -- and it was visited: the buffers hold what the visit made of the state, with the pending slots after it
-pub record Visited (o : RunnerConfig) (w h : ℕ) (image t₀ L K B E Q M S : List ℕ) (t r : Turns) (k : ℕ) : Type 0 where
+pub record Visited (o : RunnerConfig) (w h : ℕ) (image t₀ L K B E Q M S : List ℕ) (n : ℕ) (t r : Turns) (k : ℕ) : Type 0 where
   pub carried : Carried (w * h) (visit_at o w h image t.turns k)
       (order.rekey k (queue_at o w h image t.turns).now (visit_at o w h image t.turns k)
-      (queue_at o w h image t.turns).keys) t₀ L K B E Q M S r.n r.m (t.turns + 1)
+      (queue_at o w h image t.turns).keys) t₀ L K B E Q M S n r.m (t.turns + 1)
   pub same : r.turns ≡ t.turns
   pub top : r.largest ≡ order.largest (visit_at o w h image t.turns k).clusters
 

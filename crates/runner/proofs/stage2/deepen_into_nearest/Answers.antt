@@ -17,12 +17,12 @@ grown-requires c = let d = c.requires.2 in
     hollowed-grows c.args.input.now.given d.visiting d.aimed c.put_out-put.ensures c.deepen_cluster_into.ensures.deepened c.append_hole.ensures.hollowed
 
 pub returns-then-near-input-clause-visited : goal.returns-then-near-input-clause-visited
-returns-then-near-input-clause-visited c t₀ a d = let l = c.append_hole.ensures.lists in rw (l.0, l.1)
-    (hollowed-visited c.args.input.now.given d.visiting d.aimed c.put_out-put.ensures c.deepen_cluster_into.ensures.deepened c.append_hole.ensures.hollowed (le-leb _ _ c.if-near-input.true) d.deepens (omega arith) c.grown.ensures)
+returns-then-near-input-clause-visited c t₀ a d = let l = c.append_hole.ensures.lists in let g = c.grown.ensures in rw (l.0, l.1)
+    (hollowed-visited c.args.input.now.given d.visiting d.aimed c.put_out-put.ensures c.deepen_cluster_into.ensures.deepened c.append_hole.ensures.hollowed (le-leb _ _ c.if-near-input.true) d.deepens (omega arith) g.same.slots g.same.numbers_long g.grown)
 
 pub grown-requires-2 : goal.grown-requires-2
 grown-requires-2 c = let d = c.requires.2 in deepened-grows c.args.input.now.given d.visiting d.aimed c.put_out-put.ensures c.deepen_cluster_into.ensures.deepened
 
 pub returns-clause-visited : goal.returns-clause-visited
-returns-clause-visited c t₀ a d =
-    deepened-visited c.args.input.now.given d.visiting d.aimed c.put_out-put.ensures c.deepen_cluster_into.ensures.deepened (lt-leb _ _ c.if-near-input.false) d.deepens (omega arith) c.grown-2.ensures
+returns-clause-visited c t₀ a d = let g = c.grown-2.ensures in
+    deepened-visited c.args.input.now.given d.visiting d.aimed c.put_out-put.ensures c.deepen_cluster_into.ensures.deepened (lt-leb _ _ c.if-near-input.false) d.deepens (omega arith) g.same.slots g.same.numbers_long g.grown

@@ -21,5 +21,5 @@ pub grown-requires : goal.grown-requires
 grown-requires c = merged-grows c.args.input.now.given c.requires.by_index.1 c.requires.aimed c.merge_cluster_into.ensures.merged
 
 pub returns-clause-visited : goal.returns-clause-visited
-returns-clause-visited c t₀ v =
-    merged-visited c.args.input.now.given v c.requires.aimed c.merge_cluster_into.ensures.merged (deepens-told c.args.input.now.given v c.requires.aimed c.deepens.ensures c.if-deepens.false) (omega arith) c.grown.ensures
+returns-clause-visited c t₀ v = let g = c.grown.ensures in
+    merged-visited c.args.input.now.given v c.requires.aimed c.merge_cluster_into.ensures.merged (deepens-told c.args.input.now.given v c.requires.aimed c.deepens.ensures c.if-deepens.false) (omega arith) g.same.slots g.same.numbers_long g.grown

@@ -5,7 +5,7 @@ use Rattle.runner.proofs.stage2.prepare_stage_2.Goals as goal
 pub loop-k-preserved : goal.loop-k-preserved
 loop-k-preserved c =
     let larger : c.max-largest.result ≡ max c.loop-k.largest c.prepare_slot.result = search rules in
-    rw larger (prepare-next c.loop-k.invariant c.loop-k-test.true c.prepare_slot.auto.table c.prepare_slot.ensures)
+    record { same = search rules; preparing = rw larger (prepare-next c.loop-k.invariant.preparing c.loop-k-test.true c.prepare_slot.auto.table c.prepare_slot.ensures.prepared) }
 
-pub returns : goal.returns
-returns c = prepare-done c.loop-k.invariant c.loop-k-test.false
+pub returns-clause-prepared : goal.returns-clause-prepared
+returns-clause-prepared c = prepare-done c.loop-k.invariant.preparing c.loop-k-test.false

@@ -1,11 +1,11 @@
-use Rattle.std.proofs.Common.{rules}
+use Rattle.std.proofs.Common.{rules, sym}
 use mathlib.Core.Path.{◌≡◌}
 use Prim.Native.Nat.{ℕ, ◌+◌, ◌-◌, ◌<◌}
 use native.Mathlib.Omega.{arith}
 use Rattle.runner.specs.Code.Lists.{of_input}
 use Rattle.runner.specs.Code.Stage2.{Chosen}
-use Rattle.runner.proofs.Starting.{preparing-fits, building, started}
-use Rattle.runner.proofs.Turning.{picking, chooses, ends, turns-left}
+use Rattle.runner.proofs.Starting.{preparing-fits, started}
+use Rattle.runner.proofs.Turning.{slots-are, picking, chooses, ends, turns-left}
 use Rattle.runner.proofs.stage2.stage_2.Goals as goal
 use Rattle.runner.proofs.stage2.stage_2.Goals.{In-Some}
 
@@ -13,31 +13,32 @@ use Rattle.runner.proofs.stage2.stage_2.Goals.{In-Some}
 fewer : {l m n : ℕ} → m ≡ n + 1 → n < l → l - m < l - n
 fewer e f = omega arith
 
-pub prepare_stage_2-largest-requires : goal.prepare_stage_2-largest-requires
-prepare_stage_2-largest-requires c = preparing-fits c.args.input.now.given c.requires.1
-
-pub build-requires : goal.build-requires
-build-requires c = let s = c.prepare_stage_2-largest in building c.args.input.now.given c.requires.1 s.ensures s.auto.queue
+pub invariant_of-work : goal.invariant_of-work
+invariant_of-work c = let f = preparing-fits c.args.input.now.given c.requires.1 in record { fits = f.1; small = f.2 }
 
 pub loop-e-init : goal.loop-e-init
-loop-e-init c = let s = c.prepare_stage_2-largest in
+loop-e-init c = let p = c.prepare_stage_2-largest.ensures in
+    let b = c.build.ensures in
     record {
       lists = search rules;
       work = search rules;
-      running = record { some = (c.requires.0, started c.args.input.now.given c.requires.1 s.ensures s.auto.queue c.build.ensures c.build.auto.queue); from = λ t₀ x. x };
+      running = record { some = (c.requires.0, started c.args.input.now.given c.requires.1 p.prepared p.same.slots p.same.numbers_long b.built b.same.slots b.same.numbers_long); from = λ t₀ x. x };
     }
 
-pub first_pending-requires : goal.first_pending-requires
-first_pending-requires c = let r = picking c.args.input.now.given c.loop-e.invariant.running.some.1 in record { sized = r.0; tree = r.1 }
+pub first-requires-clause-some : goal.first-requires-clause-some
+first-requires-clause-some c = (picking c.args.input.now.given c.loop-e.invariant.running.some.1).0
 
 pub returns-clause-staged : goal.returns-clause-staged
 returns-clause-staged c t₀ e =
-    let s = c.prepare_stage_2-largest in
-    ends c.args.input.now.given (c.loop-e.invariant.running.from t₀ (started c.args.input.now.given e s.ensures s.auto.queue c.build.ensures c.build.auto.queue)) (rw c.in_default.is at c.first_pending.ensures)
+    let p = c.prepare_stage_2-largest.ensures in
+    let b = c.build.ensures in
+    let g = c.args.input.now.given in
+    let r = c.loop-e.invariant.running.from t₀ (started g e p.prepared p.same.slots p.same.numbers_long b.built b.same.slots b.same.numbers_long) in
+    rw (e.slots, sym (slots-are g r)) (ends g r (rw c.in_default.is at c.first.ensures))
 
 -- the slot of a turn
 chosen : (c : In-Some) → of_input Chosen c.args.input.now c.loop-e.t.turns c.in-Some.e.slot c.in-Some.e.key
-chosen c = chooses c.args.input.now.given c.loop-e.invariant.running.some.1 c.in-Some.e (rw c.in-Some.is at c.first_pending.ensures)
+chosen c = chooses c.args.input.now.given c.loop-e.invariant.running.some.1 c.in-Some.e (rw c.in-Some.is at c.first.ensures)
 
 pub turn-t-requires : goal.turn-t-requires
 turn-t-requires c = record { by_index = c.loop-e.invariant.running.some; chosen = chosen (goal.at.turn-t-requires c).In-Some }
