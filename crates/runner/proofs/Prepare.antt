@@ -81,8 +81,8 @@ prepare-next {n} {B₀} {Q₀} {B} {Q} {B'} {Q'} {k} {r} {r'} I l same' P = reco
     key s t₀ H j m (no z) =
         ap (λ q. get_or q j 0) P.queue ∙ get_or-set_other Q k j (queue_key (head_at B k).count) 0 z ∙ I.keys s t₀ H j (omega arith)
 
-pub prepare-done : {n : ℕ} {B₀ Q₀ B Q : List ℕ} {k r : ℕ} → Preparing n B₀ Q₀ B Q k r → n ≤ k → Prepared n B₀ Q₀ B Q r
-prepare-done {n} {B₀} {Q₀} {B} {Q} {k} {r} I l = record {
+pub prepare_done : {n : ℕ} {B₀ Q₀ B Q : List ℕ} {k r : ℕ} → Preparing n B₀ Q₀ B Q k r → n ≤ k → Prepared n B₀ Q₀ B Q r
+prepare_done {n} {B₀} {Q₀} {B} {Q} {k} {r} I l = record {
   state = λ s t₀ e f U. prepare-end s (subst (λ i. Table n (preparing s i) t₀ B) all (I.state s t₀ (held s t₀ e f U)));
   keys = λ s t₀ e f U j m. I.keys s t₀ (held s t₀ e f U) j (omega (arith, all));
   rest = λ j m. I.rest j (omega (arith, all));

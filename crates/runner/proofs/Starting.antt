@@ -39,8 +39,8 @@ module _ {o : RunnerConfig} {w h : ℕ} {image : List ℕ} {shift : ℕ} (G : Gi
   table_fits : slot_width * n ≤ length t₀
   table_fits = omega (arith, few-slots, N.table_fits)
 
-  pub preparing-fits : (slot_width * n ≤ length B) × (3 * n ≤ length Q) × (n ≤ count_bound)
-  preparing-fits = (omega (arith, N.rep.tabled.long, table_fits), omega (arith, N.queue-long, few-slots), omega (arith, few-slots, G.small))
+  pub queue-fits : (3 * n ≤ length Q) × (n ≤ count_bound)
+  queue-fits = (omega (arith, N.queue-long, few-slots), omega (arith, few-slots, G.small))
 
   module _ {B' Q₁ : List ℕ} {n₁ top : ℕ} (P : Prepared n B Q B' Q₁ top) (z : n₁ ≡ n) (e : length Q₁ ≡ length Q) where
     module _ {Q₂ : List ℕ} {n₂ : ℕ} (D : Built Q₁ Q₂ n₁) (y : n₂ ≡ n₁) (d : length Q₂ ≡ length Q₁) where

@@ -1,5 +1,6 @@
 -- Laws of the tournament tree. Assumes nothing.
 use Rattle.std.specs.Prelude.{if◌then◌else◌}
+use Rattle.std.proofs.Common.{Option, Some, None}
 use mathlib.Core.Path.{◌≡◌, refl, sym, ap, ap₂, ◌∙◌, subst}
 use mathlib.Core.Logic.{◌⊎◌, inl, inr, by_cases}
 use mathlib.Core.Bool.{Bool, true, false, ◌&&◌}
@@ -13,7 +14,7 @@ use lib.Seq.{get_or-set_same, get_or-set_other, set-get_or}
 use borrow.Author.Tests.{ltb-true, ltb-false, eqb-true, eqb-false, le-leb, lt-leb}
 use Rattle.rules.proofs.Facts.{both_true}
 use Rattle.runner.specs.declared.queue.Entry.{Entry}
-use Rattle.runner.specs.Code.Queue.{leaf, node, entry_at, first_entry, beside_of, with_node, first_below, Tree, refreshed, First}
+use Rattle.runner.specs.Code.Queue.{leaf, node, entry_at, first_entry, beside_of, with_node, first_below, Tree, refreshed, Refreshed, Built, KeySet, First}
 
 -- ---- the order of entries
 
@@ -245,13 +246,12 @@ climb-start queue n k v S b H = record {
         (λ y. (get_or-set_other queue k (n + 2 * x) v 0 (λ e. omega arith), get_or-set_other queue k (n + 2 * x + 1) v 0 (λ e. omega arith)))
         (λ y. get_or-set_other queue k (x - n) v 0 (λ e. d (omega arith)))
 
-module _ (queue₀ queue next : List ℕ) (n x : ℕ) (e : Entry) (C : Climbing queue₀ queue n x e) (l : 1 < x) where
+module _ {queue₀ queue next : List ℕ} {n n' x : ℕ} {e : Entry} {r : Option Entry} (C : Climbing queue₀ queue n x e) (l : 1 < x) (R : Refreshed queue next n' (x / 2) r) (z : n' ≡ n) where
   above_in : x / 2 < n
   above_in = omega (arith, C.inside)
 
-  -- a node made from its children leaves at most the node above it
-  pub climb-up : (t : Entry) → next ≡ refreshed queue n (x / 2) → t ≡ first_below queue n (x / 2) → Climbing queue₀ next n (x / 2) t
-  climb-up t m f = subst (λ q. Climbing queue₀ q n (x / 2) t) (sym m) (record {
+  raised : {t : Entry} → t ≡ first_below queue n (x / 2) → Climbing queue₀ next n (x / 2) t
+  raised {t} f = subst (λ q. Climbing queue₀ q n (x / 2) t) (sym (rw z at R.made)) (record {
     fits = subst (λ l. 3 * n ≤ l) (sym (made-length queue n C.fits (x / 2) above_in)) C.fits;
     inside = omega (arith, C.inside);
     stands = f ∙ sym (made-node queue n C.fits (x / 2) above_in);
@@ -259,14 +259,22 @@ module _ (queue₀ queue next : List ℕ) (n x : ℕ) (e : Entry) (C : Climbing 
     keys = λ y b. made-keys queue n C.fits (x / 2) above_in y b ∙ C.keys y b;
   })
 
-  -- where the node is as it was, nothing is left to do
-  pub climb-stop : next ≡ refreshed queue n (x / 2) → next ≡ queue → Tree next n
-  unfolding Tree
-  climb-stop m z i p q = by_cases (ℕ_discrete i (x / 2 / 2)) (λ y. subst (λ g. entry_at g n i ≡ first_below g n i) (sym z) (C.but i p q (λ u. omega arith))) ((climb-up (first_below queue n (x / 2)) m refl).but i p q)
+  -- a node made from its children leaves at most the node above it
+  pub climb-up : {t : Entry} → r ≡ Some t → Climbing queue₀ next n (x / 2) t
+  climb-up s = raised (rw (z, s) at R.answer)
 
-pub climb-end : (queue₀ queue : List ℕ) (n x : ℕ) (e : Entry) → x ≤ 1 → Climbing queue₀ queue n x e → Tree queue n
+  -- where the node is as it was, nothing is left to do
+  whole : next ≡ queue → Tree next n
+  unfolding Tree
+  whole s i p q = by_cases (ℕ_discrete i (x / 2 / 2)) (λ y. subst (λ g. entry_at g n i ≡ first_below g n i) (sym s) (C.but i p q (λ u. omega arith))) ((raised refl).but i p q)
+
+pub climb-stop : {queue₀ queue next : List ℕ} {n n' x k v : ℕ} {e : Entry} {r : Option Entry} → Climbing (set queue₀ k v) queue n x e → 1 < x → Refreshed queue next n' (x / 2) r → n' ≡ n → r ≡ None → KeySet queue₀ next n k v
+climb-stop C l R z s = let same = rw s at R.answer in
+    record { tree = whole C l R z same; keys = λ x l. ap (λ q. get_or q x 0) same ∙ C.keys x l }
+
+pub climb-end : {queue₀ queue : List ℕ} {n x k v : ℕ} {e : Entry} → Climbing (set queue₀ k v) queue n x e → x ≤ 1 → KeySet queue₀ queue n k v
 unfolding Tree
-climb-end queue₀ queue n x e z C i p q = C.but i p q (λ u. omega arith)
+climb-end C z = record { tree = λ i p q. C.but i p q (λ u. omega arith); keys = C.keys }
 
 -- ---- the whole tree
 
@@ -288,6 +296,9 @@ build-down queue₀ queue next n j B pos e = subst (λ q. Building queue₀ q n 
     b : j - 1 < n
     b = omega (arith, B.inside)
 
-pub build-end : (queue₀ queue : List ℕ) (n j : ℕ) → j ≤ 1 → Building queue₀ queue n j → Tree queue n
+pub build-end : (queue₀ queue : List ℕ) (n j : ℕ) → Building queue₀ queue n j → j ≤ 1 → Built queue₀ queue n
 unfolding Tree
-build-end queue₀ queue n j z B i p q = B.done i (omega arith) q
+build-end queue₀ queue n j B z = record { tree = λ i p q. B.done i (omega arith) q; keys = B.keys }
+
+-- a node made from its children, on the way down
+pub ruleset builds = (build-down, held-node)

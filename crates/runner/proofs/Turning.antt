@@ -15,7 +15,7 @@ use Rattle.rules.proofs.Turns.{turn-ready, turns-table}
 use Rattle.runner.specs.declared.queue.Entry.{Entry}
 use Rattle.runner.specs.declared.stage2.Turns.{Turns}
 use Rattle.runner.specs.Code.Given.{Given}
-use Rattle.runner.specs.Code.Queue.{Tree, KeySet, NextPending}
+use Rattle.runner.specs.Code.Queue.{KeySet, NextPending}
 use Rattle.runner.specs.Code.Stage2.{Carried, queue_at, visit_at, Between, Chosen, Visiting, Visited, Staged}
 use Rattle.runner.proofs.Queues.{first_some, first-none}
 use Rattle.runner.proofs.Carried.{carried-queue}
@@ -27,8 +27,8 @@ module _ {o : RunnerConfig} {w h : ℕ} {image : List ℕ} {shift : ℕ} (G : Gi
   pub slots-are : n ≡ length (stage1 o w h image).clusters
   slots-are = I.carried.slots ∙ turns-table o w h image t.turns
 
-  pub picking : (0 < n) × Tree Q n
-  picking = (omega (arith, slots-are, (early o w h image).room, (early o w h image).some), I.carried.tree)
+  pub some-slots : 0 < n
+  some-slots = omega (arith, slots-are, (early o w h image).room, (early o w h image).some)
 
   -- one is pending
   pub chooses : (e : Entry) → NextPending Q n (Some e) → Chosen o w h image t.turns e.slot e.key

@@ -101,6 +101,7 @@ impl<'a> Queue<'a> {
     }
 
     // Makes every node of the tree from the keys.
+    #[tactic(auto, using(crate::proofs::Tournament::builds))]
     pub(crate) fn build(&mut self)
         ensures same { SameQueue self.old self.new }
         ensures built { Built self.old.numbers.now self.new.numbers.now self.old.n }

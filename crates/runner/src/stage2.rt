@@ -37,6 +37,7 @@ pub(crate) struct Turns {
 }
 
 // Each residue is set to its sum, and each slot with pixels is pending; answers the largest pixel count.
+#[tactic(auto, using(crate::proofs::Prepare::prepare_done))]
 fn prepare_stage_2(table: &mut [u32], queue: &mut Queue) -> u32
     requires { slot_width * queue.old.n ≤ length table.old }
     ensures same { SameQueue queue.old queue.new }

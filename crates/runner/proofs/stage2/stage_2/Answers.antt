@@ -4,8 +4,8 @@ use Prim.Native.Nat.{ℕ, ◌+◌, ◌-◌, ◌<◌}
 use native.Mathlib.Omega.{arith}
 use Rattle.runner.specs.Code.Lists.{of_input}
 use Rattle.runner.specs.Code.Stage2.{Chosen}
-use Rattle.runner.proofs.Starting.{preparing-fits, started}
-use Rattle.runner.proofs.Turning.{slots-are, picking, chooses, ends, turns-left}
+use Rattle.runner.proofs.Starting.{queue-fits, started}
+use Rattle.runner.proofs.Turning.{slots-are, some-slots, chooses, ends, turns-left}
 use Rattle.runner.proofs.stage2.stage_2.Goals as goal
 use Rattle.runner.proofs.stage2.stage_2.Goals.{In-Some}
 
@@ -14,7 +14,7 @@ fewer : {l m n : ℕ} → m ≡ n + 1 → n < l → l - m < l - n
 fewer e f = omega arith
 
 pub invariant_of-work : goal.invariant_of-work
-invariant_of-work c = let f = preparing-fits c.args.input.now.given c.requires.1 in record { fits = f.1; small = f.2 }
+invariant_of-work c = let f = queue-fits c.args.input.now.given c.requires.1 in record { fits = f.0; small = f.1 }
 
 pub loop-e-init : goal.loop-e-init
 loop-e-init c = let p = c.prepare_stage_2-largest.ensures in
@@ -26,7 +26,7 @@ loop-e-init c = let p = c.prepare_stage_2-largest.ensures in
     }
 
 pub first-requires-clause-some : goal.first-requires-clause-some
-first-requires-clause-some c = (picking c.args.input.now.given c.loop-e.invariant.running.some.1).0
+first-requires-clause-some c = some-slots c.args.input.now.given c.loop-e.invariant.running.some.1
 
 pub returns-clause-staged : goal.returns-clause-staged
 returns-clause-staged c t₀ e =
@@ -40,8 +40,8 @@ returns-clause-staged c t₀ e =
 chosen : (c : In-Some) → of_input Chosen c.args.input.now c.loop-e.t.turns c.in-Some.e.slot c.in-Some.e.key
 chosen c = chooses c.args.input.now.given c.loop-e.invariant.running.some.1 c.in-Some.e (rw c.in-Some.is at c.first.ensures)
 
-pub turn-t-requires : goal.turn-t-requires
-turn-t-requires c = record { by_index = c.loop-e.invariant.running.some; chosen = chosen (goal.at.turn-t-requires c).In-Some }
+pub turn-t-requires-clause-chosen : goal.turn-t-requires-clause-chosen
+turn-t-requires-clause-chosen c = chosen (goal.at.turn-t-requires-clause-chosen c).In-Some
 
 pub loop-e-smaller : goal.loop-e-smaller
 loop-e-smaller c = fewer c.turn-t.ensures.turns (turns-left c.args.input.now.given c.loop-e.invariant.running.some.1 (chosen (goal.at.loop-e-smaller c).In-Some))
