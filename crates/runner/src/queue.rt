@@ -79,14 +79,14 @@ impl<'a> Queue<'a> {
         requires { x < 2 * self.now.n }
         ensures { result ≡ entry_at self.now.numbers.now self.now.n x }
     {
-        if x < self.n {
-            return self.node(x);
+        if self.n <= x {
+            let k = x - self.n;
+            return Entry {
+                key: self.numbers[k],
+                slot: k as u32,
+            };
         }
-        let k = x - self.n;
-        Entry {
-            key: self.numbers[k],
-            slot: k as u32,
-        }
+        self.node(x)
     }
 
     // Node j holds e from now on.
