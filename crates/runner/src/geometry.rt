@@ -114,7 +114,5 @@ pub(crate) fn deepens(b: &Builder, input: &Input, e: Entry, diff: u32) -> bool
         first: slot::first_pixel(b.table, e.slot),
         area: e.key,
     };
-    o.hierarchical == HIERARCHICAL_MAX
-        && o.deepen_diff < diff as i32
-        && candidate.patch_good()
+    o.hierarchical == HIERARCHICAL_MAX && o.deepen_diff < diff as i32 && candidate.patch_good()
 }
