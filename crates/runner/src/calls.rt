@@ -51,7 +51,7 @@ fn both_stages(b: &mut Builder, work: &mut Work, outputs: &mut [u32], input: &In
 {
     let n = label_image(b, work, input);
     let t = stage2::stage_2(b, work, input, n);
-    let m = outputs::drop_empty(b, work, outputs, t.m);
+    let m = outputs::drop_empty(b, &work.staged[..t.m as usize], outputs);
     Counts { n: t.n, m }
 }
 
