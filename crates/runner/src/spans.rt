@@ -15,7 +15,7 @@ use super::bound::BoundingRect;
 use super::builder::Builder;
 use super::input::{Input, Pixel};
 use super::slot::Head;
-use super::{builder, keying, labelling, slot, stage1};
+use super::{builder, keying, slot, stage1};
 use crate::RunnerConfig;
 use color::ColorSum;
 
@@ -48,6 +48,7 @@ pub(crate) fn add_span(b: &mut Builder, image: &[u8], k: u32, at: Pixel, n: u32)
     ensures loans { SameLists b.old b.new }
     ensures added { of_lists (of_lists (AddedSpan image.now k at.i at.x at.y n) b.old) b.new }
 {
+    let labels = &mut *b.labels;
     let links = &mut *b.links;
     let table = &mut *b.table;
     let ends = &mut *b.ends;
@@ -65,7 +66,7 @@ pub(crate) fn add_span(b: &mut Builder, image: &[u8], k: u32, at: Pixel, n: u32)
     };
     builder::link_after(links, s.count, ends[k as usize], at.i + 1);
     chain_links(links, at.i, n - 1);
-    labelling::fill(b.labels, at.i, n, k);
+    labels[at.i as usize..(at.i + n) as usize].fill(k);
     ends[k as usize] = at.i + n;
     slot::save_head(table, k, s.with_cluster(span));
 }

@@ -15,6 +15,7 @@ use Rattle.runner.specs.Code.Slots.{Adds, head_at, head_of, saved_head}
 use Rattle.runner.specs.Code.Rep.{link_after}
 use Rattle.runner.specs.Code.Spans.{linked_from, CanAddSpan, AddedSpan}
 use Rattle.runner.proofs.Slots.{head-is}
+use Rattle.runner.proofs.Labels.{part-filled}
 use Rattle.runner.proofs.spans.add_span.Goals as goal
 
 -- the span as a slot's head
@@ -45,5 +46,5 @@ module _ {image : List ℕ} {k i x y n : ℕ} {L K B E : List ℕ} {s : Head} (l
 
 pub returns-clause-added : goal.returns-clause-added
 unfolding span_rect
-returns-clause-added c = added c.load_head-s.ensures c.requires c.fill.ensures c.link_after.ensures c.chain_links.ensures
+returns-clause-added c = added c.load_head-s.ensures c.requires (part-filled _ _ _ _ c.args.n _ (omega arith) c.requires.pixels (c.fill.ensures.after (λ y e. e))) c.link_after.ensures c.chain_links.ensures
     (span_head _ _ _ _ _ _ c.requires.some refl refl refl c.sum_colors.ensures) c.with_cluster.ensures c.save_head.ensures
