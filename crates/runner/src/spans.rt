@@ -1,5 +1,5 @@
 // Spans of stage 1: pixels of a row that go into the cluster of the pixel before them, found and then added at once.
-ghost use Rattle.std.specs.Prelude.{◌≡◌, true, false, ℕ, ◌+◌, ◌-◌, ◌*◌, ◌≤◌, ◌<◌, pos, length, get_or};
+ghost use Rattle.std.specs.Prelude.{◌≡◌, true, false, ℕ, ◌+◌, ◌-◌, ◌*◌, ◌/◌, ◌≤◌, ◌<◌, pos, length, get_or};
 ghost use Rattle.rules.specs.Base.{apart};
 ghost use Rattle.rules.specs.Stage1.{is_key};
 ghost use Rattle.rules.specs.Code.Spans.{sum_from, Extends, AllExtend};
@@ -17,7 +17,7 @@ use super::input::{Input, Pixel};
 use super::slot::Head;
 use super::{builder, keying, slot, stage1};
 use crate::RunnerConfig;
-use color::ColorSum;
+use color::{Color, ColorSum};
 
 // Each of n pixels from i on is linked to the one after it.
 #[tactic(auto, unfolding(crate::specs::Code::Spans::linked_from))]
@@ -30,14 +30,14 @@ fn chain_links(links: &mut [u32], i: u32, n: u32)
     }
 }
 
-// The colours of n pixels from i on, summed.
-fn sum_colors(image: &[u8], i: u32, n: u32) -> ColorSum
-    requires { (4 * (i + n) ≤ length image.now) × (i + n < count_bound) }
-    ensures { sum_of result ≡ sum_from image.now i n }
+// The colours of pixels, of four bytes each, summed.
+fn sum_colors(bytes: &[u8]) -> ColorSum
+    requires { length bytes.now < 4 * count_bound }
+    ensures { sum_of result ≡ sum_from bytes.now 0 (length bytes.now / 4) }
 {
     let mut s = ColorSum::default();
-    for j in i..i + n {
-        s = s.plus(ColorSum::from(keying::color_at(image, j)));
+    for &[r, g, b, a] in bytes.as_chunks::<4>().0 {
+        s = s.plus(ColorSum::from(Color { r, g, b, a }));
     }
     s
 }
@@ -62,7 +62,7 @@ pub(crate) fn add_span(b: &mut Builder, image: &[u8], k: u32, at: Pixel, n: u32)
             right: at.x + n,
             bottom: at.y + 1,
         },
-        sum: sum_colors(image, at.i, n),
+        sum: sum_colors(&image[4 * at.i as usize..4 * (at.i + n) as usize]),
     };
     builder::link_after(links, s.count, ends[k as usize], at.i + 1);
     chain_links(links, at.i, n - 1);
