@@ -1,17 +1,15 @@
 -- What relabelling a part of a list leaves to be done, and a stretch of labels that is filled.
-use mathlib.Core.Path.{◌≡◌, sym, ap, ◌∙◌, subst}
+use mathlib.Core.Path.{◌≡◌, sym, ap, ◌∙◌}
 use mathlib.Core.List.{List, [], ◌∷◌, ◌++◌, append_assoc}
 use Prim.Native.Nat.{ℕ, zero, suc, ◌+◌, ◌-◌, ◌≤◌, ◌<◌}
 use native.Mathlib.Numerals.{add-one}
 use native.Mathlib.Omega.{arith}
-use lib.Dec.{T}
 use lib.ListN.{length, get_or, set, take, drop, length-set, length-append}
 use Rattle.std.proofs.Common.{length-drop, drop-cons}
 use Rattle.std.proofs.Math.ListN.{replicate}
 use Rattle.std.proofs.lemmas.Grind.{common_steps}
 use Rattle.std.proofs.lemmas.List.{set_at, length-take-le, length-replicate, replicate_more}
 use Rattle.rules.specs.State.{relabel}
-use Rattle.rules.specs.Paint.{reads}
 use Rattle.rules.specs.Code.Spans.{set_from, Consecutive}
 use Rattle.rules.proofs.Walks.{Step, step}
 use Rattle.rules.proofs.Spans.{length-set_from}
@@ -36,17 +34,6 @@ module _ {L K : List ℕ} {at left : ℕ} (C : CanRelabel L K at left) where
     relabels-stretch t =
         let S = stretch (length L) K at left n l C.list c in
         record { width = length-set_from L (at - 1) (n + 1) t; list = rw add-one S.rest; same = rw add-one (sym (S.same t L)) }
-
--- what is left can be relabelled
-pub can-go-on : {t : ℕ} {L K : List ℕ} {at left : ℕ} {L' : List ℕ} {at' left' : ℕ} → CanRelabel L K at left → Relabels t L K at left L' at' left' → CanRelabel L' K at' left'
-can-go-on {K = K} {at' = at'} {left' = left'} C R =
-    record { links = omega (arith, R.width, C.links); small = omega (arith, R.width, C.small); list = subst (λ m. T (reads m K at' left')) (sym R.width) R.list }
-
--- one part after another
-pub relabels-then : {t : ℕ} {L K : List ℕ} {at left : ℕ} {L' : List ℕ} {at' left' : ℕ} {L'' : List ℕ} {at'' left'' : ℕ}
-    → Relabels t L K at left L' at' left' → Relabels t L' K at' left' L'' at'' left'' → Relabels t L K at left L'' at'' left''
-relabels-then {K = K} {at'' = at''} {left'' = left''} R S =
-    record { width = S.width ∙ R.width; list = subst (λ m. T (reads m K at'' left'')) R.width S.list; same = S.same ∙ R.same }
 
 -- ---- a stretch filled
 

@@ -240,17 +240,3 @@ module _ {o : RunnerConfig} {shift w t : ℕ} {image L : List ℕ} (limits : Lis
 -- what holds of n numbers from i on, and of m after them
 pub then-more : (P : ℕ → Type 0) (i n m : ℕ) → ((j : ℕ) → j < n → P (i + j)) → ((j : ℕ) → j < m → P (i + n + j)) → (j : ℕ) → j < n + m → P (i + j)
 then-more P i n m f g j l = by_cases (dec_lt j n) (λ z. f j z) (λ z. subst P (let e : i + n + (j - n) ≡ i + j = omega (arith, z) in e) (g (j - n) (omega (arith, z))))
-
--- what holds of three and of four numbers
-pub of_three : (P : ℕ → Type 0) → P 0 → P 1 → P 2 → (j : ℕ) → j < 3 → P j
-of_three P a b c zero l = a
-of_three P a b c (suc zero) l = b
-of_three P a b c (suc (suc zero)) l = c
-of_three P a b c (suc (suc (suc j))) l = absurd (omega arith)
-
-pub of_four : (P : ℕ → Type 0) → P 0 → P 1 → P 2 → P 3 → (j : ℕ) → j < 4 → P j
-of_four P a b c d zero l = a
-of_four P a b c d (suc zero) l = b
-of_four P a b c d (suc (suc zero)) l = c
-of_four P a b c d (suc (suc (suc zero))) l = d
-of_four P a b c d (suc (suc (suc (suc j)))) l = absurd (omega arith)

@@ -1,6 +1,5 @@
 // An accepted run: stage 1, stage 2, and what is left at the end.
-ghost use Rattle.std.specs.Prelude.{◌≡◌, false, ◌*◌, ◌≤◌, pos, length};
-ghost use Rattle.rules.specs.Refusals.{bad_shift};
+ghost use Rattle.std.specs.Prelude.{◌≡◌, ◌*◌, ◌≤◌, length};
 ghost use Rattle.rules.specs.Run.{run};
 ghost use Rattle.rules.specs.Calls.{answered};
 ghost use Rattle.rules.specs.Calls as rules;

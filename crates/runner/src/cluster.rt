@@ -49,7 +49,7 @@ impl Nearest {
     }
 }
 
-// A visit of a cluster: what is read for its neighbours, its number, the label of the cluster, and the cluster's colour.
+// A visit of a cluster: what is read for its neighbours, its number, and the label and the colour of the cluster.
 #[derive(Clone, Copy)]
 struct Visit<'a> {
     input: &'a Input<'a>,

@@ -1,9 +1,8 @@
 // Labels written for many pixels at once.
-ghost use Rattle.std.specs.Prelude.{◌≡◌, List, ℕ, ◌+◌, ◌≤◌, ◌<◌, length, get_or};
+ghost use Rattle.std.specs.Prelude.{◌≡◌, List, ℕ, ◌<◌, get_or};
 ghost use Rattle.rules.specs.State as rules;
 ghost use Rattle.rules.specs.Layout.{walk};
-ghost use Rattle.rules.specs.Code.Spans.{set_from, Consecutive};
-ghost use Rattle.rules.specs.Code.Bounds.{count_bound};
+ghost use Rattle.rules.specs.Code.Spans.{Consecutive};
 ghost use Rattle.runner.specs.Code.Labelling.{CanRelabel, Relabels};
 
 // What is left of a list: its first pixel, plus one, and the number of its pixels.

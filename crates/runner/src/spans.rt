@@ -1,5 +1,5 @@
 // Spans of stage 1: pixels of a row that go into the cluster of the pixel before them, found and then added at once.
-ghost use Rattle.std.specs.Prelude.{◌≡◌, true, false, ℕ, ◌+◌, ◌-◌, ◌*◌, ◌/◌, ◌≤◌, ◌<◌, pos, length, get_or};
+ghost use Rattle.std.specs.Prelude.{◌≡◌, true, false, ℕ, ◌+◌, ◌*◌, ◌/◌, ◌≤◌, ◌<◌, pos, length, get_or};
 ghost use Rattle.rules.specs.Base.{apart};
 ghost use Rattle.rules.specs.Stage1.{is_key};
 ghost use Rattle.rules.specs.Code.Spans.{sum_from, Extends, AllExtend};

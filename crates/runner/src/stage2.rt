@@ -1,14 +1,12 @@
 // Stage 2, merges and the output order, after `stage_2` of builder.rs.
-ghost use Rattle.std.specs.Prelude.{◌≡◌, true, List, ℕ, ◌+◌, ◌*◌, ◌≤◌, ◌<◌, T, length, get_or};
-ghost use Rattle.rules.specs.Color;
-ghost use Rattle.rules.specs.Paint.{reads};
+ghost use Rattle.std.specs.Prelude.{◌≡◌, true, List, ℕ, ◌+◌, ◌*◌, ◌≤◌, ◌<◌, length};
 ghost use Rattle.rules.specs.Run.{stage1, stage2};
-ghost use Rattle.rules.specs.Layout.{slot_width, first_pixel_place, InTable};
+ghost use Rattle.rules.specs.Layout.{slot_width, InTable};
 ghost use Rattle.rules.specs.Code.Bounds.{count_bound};
 ghost use Rattle.runner.specs.Types.{config_of};
 ghost use Rattle.runner.specs.Code.Lists.{of_work, of_input, SameLists, SameWork};
-ghost use Rattle.runner.specs.Code.Queue.{queue_key, Sized, Tree, NextPending};
-ghost use Rattle.runner.specs.Code.Stage2.{Prepared, PreparedSlot, patch_good_at, deepens_at, CanPut, Put, goes_out};
+ghost use Rattle.runner.specs.Code.Queue.{Sized, Tree, NextPending};
+ghost use Rattle.runner.specs.Code.Stage2.{Prepared, PreparedSlot, CanPut, Put, goes_out};
 ghost use Rattle.runner.specs.Code.Stage2.{CanGrow, Grown, Between, Chosen, Visiting, Aimed, Deepening, Visited};
 ghost use Rattle.runner.specs.Code.Stage2.{Entered, Staged};
 

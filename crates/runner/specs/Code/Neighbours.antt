@@ -1,6 +1,6 @@
 -- The neighbours of a cluster as a scan with marks finds them: how many, the nearest, and its difference.
-use Rattle.std.specs.Prelude.{◌≡◌, ◌≢◌, Bool, ◌&&◌, ◌||◌, List, [], ◌∷◌, ℕ, ◌+◌, ◌*◌, ◌≤◌, ◌<◌, T, eqb, ltb, length, map}
-use Rattle.std.specs.Prelude.{get_or, set, if◌then◌else◌}
+use Rattle.std.specs.Prelude.{◌≡◌, ◌≢◌, Bool, ◌&&◌, ◌||◌, List, [], ◌∷◌, ℕ, ◌+◌, ◌*◌, ◌≤◌, ◌<◌, T, eqb, ltb, length}
+use Rattle.std.specs.Prelude.{get_or, set, map, if◌then◌else◌}
 use Rattle.std.proofs.Math.Option.{Option, none, some}
 use Rattle.rules.specs.Base.{each, least}
 use Rattle.rules.specs.Color.{Color, color_diff, average, has_average}

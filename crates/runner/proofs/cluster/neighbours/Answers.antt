@@ -1,9 +1,6 @@
 use mathlib.Core.Path.{◌≡◌, refl, ap, ◌∙◌}
-use mathlib.Core.Logic.{◌≢◌}
-use mathlib.Core.List.{List, ◌∷◌, map, []}
-use mathlib.Core.Option.{Option, some}
-use mathlib.Core.Option.{none as off}
-use Prim.Native.Nat.{ℕ, zero, suc, ◌+◌, ◌-◌, ◌*◌, ◌≤◌, ◌<◌}
+use mathlib.Core.List.{List, map}
+use Prim.Native.Nat.{ℕ, ◌+◌, ◌-◌, ◌*◌, ◌≤◌, ◌<◌}
 use native.Mathlib.Omega.{arith}
 use lib.ListN.{length, get_or}
 use Rattle.rules.specs.Color.{Color, average}
@@ -11,10 +8,9 @@ use Rattle.rules.specs.Grid.{sides}
 use Rattle.rules.specs.Layout.{slot_width, pixel_count_place}
 use Rattle.rules.specs.Code.Bounds.{capacity}
 use Rattle.rules.specs.Stage2.{labels_at, labels_around}
-use Rattle.rules.proofs.Connected.{AllSome}
 use Rattle.rules.proofs.Labels.{sides-fit}
 use Rattle.runner.specs.Code.Slots.{sum_at}
-use Rattle.runner.specs.Code.Neighbours.{place_label, diff_from, diff_at, nearest_of, Scan, noted_four, Notable, Scannable, Found}
+use Rattle.runner.specs.Code.Neighbours.{place_label, diff_from, diff_at, nearest_of, Scan, noted_four, Scannable, Found}
 use Rattle.rules.proofs.Walks.{Step, step, walk_none}
 use Rattle.runner.proofs.Nearest.{each-length, each-count, each_holds}
 use Rattle.runner.proofs.cluster.neighbours.Invariants.{Going}

@@ -1,4 +1,4 @@
-use Rattle.std.proofs.Common.{◌≤◌, ◌<◌, length, arith}
+use Rattle.std.proofs.Common.{◌≤◌, arith}
 use Rattle.runner.proofs.Counted.{done_none, done_more, done-few}
 use Rattle.runner.proofs.outputs.drop_empty.Goals as goal
 use Rattle.runner.proofs.outputs.drop_empty.Goals.{In-loop-k}
