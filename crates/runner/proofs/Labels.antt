@@ -1,13 +1,15 @@
--- What relabelling a part of a list leaves to be done.
-use mathlib.Core.Path.{sym, ap, ◌∙◌, subst}
-use mathlib.Core.List.{List}
-use Prim.Native.Nat.{ℕ, ◌+◌, ◌-◌, ◌<◌}
+-- What relabelling a part of a list leaves to be done, and a stretch of labels that is filled.
+use mathlib.Core.Path.{◌≡◌, sym, ap, ◌∙◌}
+use mathlib.Core.List.{List, [], ◌∷◌, ◌++◌, append_assoc}
+use Prim.Native.Nat.{ℕ, zero, suc, ◌+◌, ◌-◌, ◌≤◌, ◌<◌}
 use native.Mathlib.Numerals.{add-one}
 use native.Mathlib.Omega.{arith}
-use lib.Dec.{T}
-use lib.ListN.{length, get_or, set, length-set}
+use lib.ListN.{length, get_or, set, take, drop, length-set, length-append}
+use Rattle.std.proofs.Common.{length-drop, drop-cons}
+use Rattle.std.proofs.Math.ListN.{replicate}
+use Rattle.std.proofs.lemmas.Grind.{common_steps}
+use Rattle.std.proofs.lemmas.List.{set_at, length-take-le, length-replicate, replicate_more}
 use Rattle.rules.specs.State.{relabel}
-use Rattle.rules.specs.Paint.{reads}
 use Rattle.rules.specs.Code.Spans.{set_from, Consecutive}
 use Rattle.rules.proofs.Walks.{Step, step}
 use Rattle.rules.proofs.Spans.{length-set_from}
@@ -33,13 +35,22 @@ module _ {L K : List ℕ} {at left : ℕ} (C : CanRelabel L K at left) where
         let S = stretch (length L) K at left n l C.list c in
         record { width = length-set_from L (at - 1) (n + 1) t; list = rw add-one S.rest; same = rw add-one (sym (S.same t L)) }
 
--- what is left can be relabelled
-pub can-go-on : {t : ℕ} {L K : List ℕ} {at left : ℕ} {L' : List ℕ} {at' left' : ℕ} → CanRelabel L K at left → Relabels t L K at left L' at' left' → CanRelabel L' K at' left'
-can-go-on {K = K} {at' = at'} {left' = left'} C R =
-    record { links = omega (arith, R.width, C.links); small = omega (arith, R.width, C.small); list = subst (λ m. T (reads m K at' left')) (sym R.width) R.list }
+-- ---- a stretch filled
 
--- one part after another
-pub relabels-then : {t : ℕ} {L K : List ℕ} {at left : ℕ} {L' : List ℕ} {at' left' : ℕ} {L'' : List ℕ} {at'' left'' : ℕ}
-    → Relabels t L K at left L' at' left' → Relabels t L' K at' left' L'' at'' left'' → Relabels t L K at left L'' at'' left''
-relabels-then {K = K} {at'' = at''} {left'' = left''} R S =
-    record { width = S.width ∙ R.width; list = subst (λ m. T (reads m K at'' left'')) R.width S.list; same = S.same ∙ R.same }
+-- a part of n equal entries is n entries set
+filled : (ls : List ℕ) (i n v : ℕ) → i + n ≤ length ls → take i ls ++ (replicate n v ++ drop n (drop i ls)) ≡ set_from ls i n v
+unfolding set_from
+filled ls i zero v l = grind (arith, common_steps)
+filled ls i (suc n) v l =
+    let h : n < length (drop i ls) = omega (arith, length-drop i ls) in
+    let long : length (take i ls ++ replicate n v) ≡ i + n = omega (arith, length-append (take i ls) (replicate n v), length-take-le i ls (omega arith), length-replicate n v) in
+    sym (ap (λ z. set z (i + n) v) (sym (filled ls i n v (omega arith)) ∙ ap (λ z. take i ls ++ (replicate n v ++ z)) (drop-cons (drop i ls) n 0 h) ∙ sym (append_assoc (take i ls) (replicate n v) _))
+    ∙ set_at _ _ _ v (i + n) long ∙ append_assoc (take i ls) (replicate n v) _
+    ∙ ap (λ z. take i ls ++ z) (sym (append_assoc (replicate n v) (v ∷ []) _) ∙ ap (λ z. z ++ drop (suc n) (drop i ls)) (replicate_more n v ∙ ap (λ m. replicate m v) (add-one n))))
+
+-- the part from i to e
+pub part-filled : (ls ys : List ℕ) (i e n v : ℕ) → e - i ≡ n → i + n ≤ length ls → ys ≡ replicate (length (take (e - i) (drop i ls))) v
+    → take i ls ++ (ys ++ drop (e - i) (drop i ls)) ≡ set_from ls i n v
+part-filled ls ys i e n v d l f =
+    let m : length (take (e - i) (drop i ls)) ≡ n = rw d (length-take-le n (drop i ls) (omega (arith, length-drop i ls, l))) in
+    rw (f ∙ ap (λ z. replicate z v) m, d) (filled ls i n v l)

@@ -14,7 +14,6 @@ pub mod RepStage2
 pub mod RepHollow
 pub mod RepReads
 pub mod Ops
-pub mod Answers
 pub mod Counted
 pub mod Spots
 pub mod Stage1Laws

@@ -6,7 +6,7 @@ use mathlib.Core.Bool.{Bool, true, false, ◌&&◌, ◌||◌, or-true}
 use mathlib.Core.List.{List, [], ◌∷◌, ◌++◌, map}
 use mathlib.Core.Option.{Option, some}
 use mathlib.Core.Option.{none as off}
-use Prim.Native.Nat.{ℕ, suc, ◌+◌, ◌-◌, ◌*◌, ◌%◌, ◌≤◌, ◌<◌}
+use Prim.Native.Nat.{ℕ, zero, suc, ◌+◌, ◌-◌, ◌*◌, ◌%◌, ◌≤◌, ◌<◌}
 use native.Mathlib.Decide.{ℕ_discrete}
 use native.Mathlib.Numerals.{add-one}
 use native.Mathlib.Omega.{arith}
@@ -30,7 +30,7 @@ use Rattle.rules.proofs.Connected.{AllSome}
 use Rattle.rules.proofs.Neighbours.{Rising, least-is, least-unique, all_in, insert-rising}
 use Rattle.runner.specs.declared.cluster.Nearest.{Nearest}
 use Rattle.runner.specs.Code.Slots.{sum_at}
-use Rattle.runner.specs.Code.Neighbours.{place_label, diff_at, nearest_of, closer, with_neighbour, Scan, noted, noted_four, list_at}
+use Rattle.runner.specs.Code.Neighbours.{place_label, diff_at, nearest_of, closer, with_neighbour, Scan, noted, noted_four, Notable, list_at}
 
 -- ---- a number put into a rising list
 
@@ -157,6 +157,15 @@ neighbours-nearest w h s k labels links table a b c d e =
     (in_all (λ l. diff_at table k l ≡ rank s k l) (labels_around w h s.labels k (cluster s k).pixels []) (λ l i. ap₂ (λ x y. color_diff (average x) (average y)) d (e l (rw c i)))))
 
 -- ---- a label noted
+
+-- the labels at places of the image
+pub notable : (labels table : List ℕ) (size marks : ℕ) → ((q : ℕ) → q < size → get_or labels q 0 ≢ 0 → Notable table marks (get_or labels q 0))
+    → (is : List (Option ℕ)) → AllSome (λ q. q < size) is → (i : ℕ) → get_or (map (place_label labels) is) i 0 ≢ 0 → Notable table marks (get_or (map (place_label labels) is) i 0)
+notable labels table size marks f [] a i n = absurd (n refl)
+notable labels table size marks f (off ∷ is) a zero n = absurd (n refl)
+notable labels table size marks f (some q ∷ is) a zero n = f q a.0 n
+notable labels table size marks f (off ∷ is) a (suc i) n = notable labels table size marks f is a.1 i n
+notable labels table size marks f (some q ∷ is) a (suc i) n = notable labels table size marks f is a.1 i n
 
 -- the labels found so far, with l
 abbrev pub found-with : ℕ → ℕ → List ℕ → List ℕ

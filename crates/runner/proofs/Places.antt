@@ -1,6 +1,6 @@
 -- Places in an image of w columns and h rows.
 use mathlib.Core.Logic.{by_cases}
-use Prim.Native.Nat.{ℕ, suc, ◌+◌, ◌*◌, ◌%◌, ◌/◌, ◌≤◌, ◌<◌}
+use Prim.Native.Nat.{ℕ, suc, ◌+◌, ◌*◌, ◌/◌, ◌≤◌, ◌<◌}
 use native.Mathlib.Nat.{mul-le-mul_left, mul_comm, suc-mul, div-add-mod'}
 use native.Mathlib.Decide.{dec_lt}
 use native.Mathlib.Omega.{arith}
@@ -14,7 +14,3 @@ pub row_in : (w h p : ℕ) → p < w * h → p / w < h
 row_in w h p a = by_cases (dec_lt (p / w) h)
     (λ b. b)
     (λ n. let m : h ≤ p / w = omega arith in absurd (omega (arith, div-add-mod' p w, mul-le-mul_left w m, mul_comm w (p / w))))
-
--- the pixel to the right of one that is not the last of its row
-pub right-in : (w h p : ℕ) → 0 < w → p < w * h → p % w + 1 < w → p + 1 < w * h
-right-in w h p z a n = omega (arith, place_in w h (p % w + 1) (p / w) n (row_in w h p a), div-add-mod' p w)

@@ -73,9 +73,6 @@ abbrev pub preparing : State → ℕ → ℕ → ℕ → ℕ
 preparing s k j f = if ltb j k then slots_of (prepare_stage2 s) j f else slots_of s j f
 
 module _ (s : State) {n : ℕ} {t₀ tb : List ℕ} where
-  pub prepare-start : Table n (slots_of s) t₀ tb → Table n (preparing s 0) t₀ tb
-  prepare-start U = table_same U (λ k f l b. sym (ap (λ c. if c then slots_of (prepare_stage2 s) k f else slots_of s k f) (le-ltb k 0 (omega arith))))
-
   pub prepare-end : Table n (preparing s n) t₀ tb → Table n (slots_of (prepare_stage2 s)) t₀ tb
   prepare-end U = table_same U (λ k f l b. ap (λ c. if c then slots_of (prepare_stage2 s) k f else slots_of s k f) (lt-ltb k n l))
 

@@ -72,18 +72,22 @@ module _ (o : RunnerConfig) (w h : ℕ) (image : List ℕ) (bytes : (i : ℕ) �
     entries-few : entries ≤ 2 * (w * h)
     entries-few = omega (arith, F.entries, outputs-bound o w h image)
 
-    -- what is asked where the outputs are copied
-    pub entries-fit : (entries ≤ length S) × (entries ≤ length O₀)
-    entries-fit = (omega (arith, entries-few, F.long), omega (arith, entries-few, room))
+    -- the outputs are staged
+    pub staged-length : length (take entries S) ≡ entries
+    staged-length = length-take-le entries S (omega (arith, entries-few, F.long))
 
-    pub entries-in : (i : ℕ) → i < entries → slot_width * get_or S i 0 + slot_width ≤ length B
-    entries-in i l = omega (arith, F.staged i l, below_at (ended o w h image).outputs i ended-ranged.outputs (omega (arith, F.entries)), ended-ranged.slots, F.tabled.long, fits)
+    -- what is asked where they are copied
+    pub staged-few : entries < 4294967296 → (length (take entries S) ≤ length O₀) × (length (take entries S) < 4294967296)
+    staged-few l = (omega (arith, staged-length, entries-few, room), omega (arith, staged-length, l))
+
+    pub staged-in : (i : ℕ) → i < length (take entries S) → slot_width * get_or (take entries S) i 0 + slot_width ≤ length B
+    staged-in i l =
+        omega (arith, get_or-take entries S i 0 (omega (arith, staged-length, l)), F.staged i (omega (arith, staged-length, l)), below_at (ended o w h image).outputs i ended-ranged.outputs (omega (arith, staged-length, l, F.entries)), ended-ranged.slots, F.tabled.long, fits)
 
     staged-all : take entries S ≡ (ended o w h image).outputs
     staged-all =
-        let n = length-take-le entries S entries-fit.0 in
-        ext_get_or 0 (take entries S) (ended o w h image).outputs (n ∙ F.entries)
-        (λ i l. get_or-take entries S i 0 (omega (arith, n)) ∙ F.staged i (omega (arith, n)))
+        ext_get_or 0 (take entries S) (ended o w h image).outputs (staged-length ∙ F.entries)
+        (λ i l. get_or-take entries S i 0 (omega (arith, staged-length)) ∙ F.staged i (omega (arith, staged-length)))
 
     kept : counted B (take entries S) ≡ (run o w h image).outputs
     unfolding run drop_empty

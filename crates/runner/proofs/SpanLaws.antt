@@ -9,6 +9,7 @@ use native.Mathlib.Decide.{dec_lt}
 use native.Mathlib.Nat.{mul_comm, le-mul_of_pos_right}
 use native.Mathlib.Omega.{arith}
 use lib.Dec.{T}
+use lib.IntN.{pos}
 use lib.ListN.{length, get_or, set}
 use lib.Seq.{get_or-set_same, set-set, set_comm}
 use Rattle.rules.specs.Color.{RunnerConfig, pixel, keying_on}
@@ -27,7 +28,8 @@ use Rattle.color.specs.Colors.{sum_of}
 use Rattle.runner.specs.declared.slot.Head.{Head}
 use Rattle.runner.specs.Code.Slots.{Adds, set_numbers, head_at, head_of, head_numbers, saved_head}
 use Rattle.runner.specs.Code.Rep.{Rep, link_after}
-use Rattle.runner.specs.Code.Spans.{linked_from, CanAddSpan, AddedSpan, Extending, RowRest, FoundSpan, Fitting, ManyNear}
+use Rattle.runner.specs.Code.Spans.{linked_from, CanAddSpan, AddedSpan, Extending, FoundSpan, Limits, ManyNear}
+use Rattle.runner.specs.Code.Given.{Spot}
 use Rattle.runner.specs.Code.Stage1.{Holding, Placing, Taking}
 use Rattle.runner.proofs.Places.{place_in}
 use Rattle.runner.proofs.Spots.{spot_in, near-row}
@@ -57,10 +59,8 @@ saved-twice t k g h = store-twice t (slot_width * k) 0 (head_numbers g) (head_nu
 -- ---- the span
 
 -- the rest of a row is on the image
-pub row-end : {o : RunnerConfig} {w h : ℕ} {image : List ℕ} {shift i x y : ℕ} {t₀ L K B E : List ℕ} {free count : ℕ} → Taking o w h image shift i x y t₀ L K B E free count → i + (w - x) ≤ w * h
-row-end {w = w} {h = h} {y = y} Q =
-    let c = Q.spot.column in
-    omega (arith, Q.spot.index, mul_comm w y, place_in w h (w - 1) y (let a : w - 1 < w = omega (arith, Q.given.columns) in a) Q.spot.row)
+pub row-end : {w h i x y : ℕ} → Spot w h i x y → i + (w - x) ≤ w * h
+row-end {w} {h} {y = y} S = omega (arith, S.index, S.column, mul_comm w y, place_in w h (w - 1) y (let a : w - 1 < w = omega (arith, S.column) in a) S.row)
 
 module _ {o : RunnerConfig} {w h : ℕ} {image : List ℕ} {shift i x y n k : ℕ} {t₀ L K B E : List ℕ} {free count : ℕ} (Q : Extending o w h image shift i x y n k t₀ L K B E free count) where
   abbrev s : State
@@ -71,7 +71,7 @@ module _ {o : RunnerConfig} {w h : ℕ} {image : List ℕ} {shift i x y n k : �
 
   -- the span is on the image
   pub inside : i + n ≤ w * h
-  inside = omega (arith, row-end Q.taking, Q.inner.within)
+  inside = omega (arith, row-end Q.taking.spot, Q.inner.within)
 
   early : (j : ℕ) → j ≤ n → Early image (w * h) (Discarded o image) (T (keying_on o)) (i + j) (taken o w image (w * h) (i + j))
   early j l = early-at o w h image (i + j) (omega (arith, inside))
@@ -171,23 +171,17 @@ module _ {o : RunnerConfig} {w h : ℕ} {image : List ℕ} {shift i x y : ℕ} {
   here : Early image (w * h) (Discarded o image) (T (keying_on o)) i (taken o w image (w * h) i)
   here = early-at o w h image i (omega (arith, spot_in Q.spot))
 
-  -- the rest of its row is there
-  pub row_of : RowRest w i x y image L
-  row_of = record {
-    index = Q.spot.index;
-    column = Q.spot.column;
-    bytes = omega (arith, row-end Q, Q.given.whole);
-    labels = omega (arith, row-end Q, labels-long here Q.holding.rep);
-    small = omega (arith, row-end Q, Q.given.small);
-  }
+  -- every pixel has a label
+  pub labels-fit : w * h ≤ length L
+  labels-fit = omega (arith, labels-long here Q.holding.rep)
 
-  module _ {n : ℕ} (F : FoundSpan o shift w image L i x y n) (some-n : 0 < n) where
+  module _ {n : ℕ} (F : FoundSpan o w image L i x y n) (some-n : 0 < n) where
     pub extending : Extending o w h image shift i x y n (get_or L (i - 1) 0) t₀ L K B E free count
     extending = record {
       taking = Q;
       inner = record { index = Q.spot.index; column = (F.inner some-n).0; row = (F.inner some-n).1; within = F.within };
       before = refl;
-      tests = F.tests Q.given.shifted;
+      tests = F.tests;
     }
 
     k : ℕ
@@ -229,34 +223,20 @@ module _ {o : RunnerConfig} {w h : ℕ} {image : List ℕ} {shift i x y : ℕ} {
 
 -- ---- four pixels at once
 
-module _ {o : RunnerConfig} {shift w : ℕ} {image L limits : List ℕ} {i k : ℕ} (row : w + 1 ≤ i) (F : Fitting o shift limits) (near : ManyNear shift limits image i (i - w) 16) where
+module _ {o : RunnerConfig} {shift w t : ℕ} {image L : List ℕ} (limits : List ℕ) {i k : ℕ} (row : w + 1 ≤ i) (shifted : o.is_same_color_a ≡ pos shift) (bounded : o.is_same_color_b ≡ pos t) (limited : Limits t limits) (near : ManyNear shift limits image i (i - w) 16) where
   pub four-extend : ((j : ℕ) → j < 4 → get_or L (i - w + j) 0 ≡ k) → ((j : ℕ) → j < 4 → is_key o image (i + j) ≡ false) → AllExtend o w image L k i 4
   four-extend labels free q l = record {
     label-up = ap (λ p. get_or L p 0) (let e : i + q - w ≡ i - w + q = omega arith in e) ∙ labels q l;
     no_key = free q l;
-    like-up = same-near o image shift F.bound (i + q) (i + q - w) F.shifted F.bounded
-        (λ c z. there (let e : 4 * (i + q) + c ≡ 4 * i + (4 * q + c) = omega arith in e) (let e : 4 * (i + q - w) + c ≡ 4 * (i - w) + (4 * q + c) = omega arith in e) (F.limited q c l z) (near (4 * q + c) (omega arith)).0);
-    like-up-left = same-near o image shift F.bound (i + q) (i + q - w - 1) F.shifted F.bounded
-        (λ c z. there (let e : 4 * (i + q) + c ≡ 4 * i + (4 * q + c) = omega arith in e) (let e : 4 * (i + q - w - 1) + c ≡ 4 * (i - w) + (4 * q + c) - 4 = omega arith in e) (F.limited q c l z) (near (4 * q + c) (omega arith)).1);
+    like-up = same-near o image shift t (i + q) (i + q - w) shifted bounded
+        (λ c z. there (let e : 4 * (i + q) + c ≡ 4 * i + (4 * q + c) = omega arith in e) (let e : 4 * (i + q - w) + c ≡ 4 * (i - w) + (4 * q + c) = omega arith in e) (limited q c l z) (near (4 * q + c) (omega arith)).0);
+    like-up-left = same-near o image shift t (i + q) (i + q - w - 1) shifted bounded
+        (λ c z. there (let e : 4 * (i + q) + c ≡ 4 * i + (4 * q + c) = omega arith in e) (let e : 4 * (i + q - w - 1) + c ≡ 4 * (i - w) + (4 * q + c) - 4 = omega arith in e) (limited q c l z) (near (4 * q + c) (omega arith)).1);
   }
     where
-      there : {l a a' b b' : ℕ} → a' ≡ a → b' ≡ b → l ≤ F.bound → NearBytes shift l image a b → NearBytes shift F.bound image a' b'
+      there : {l a a' b b' : ℕ} → a' ≡ a → b' ≡ b → l ≤ t → NearBytes shift l image a b → NearBytes shift t image a' b'
       there e f z m = rw (e, f) (omega (arith, z, m))
 
 -- what holds of n numbers from i on, and of m after them
 pub then-more : (P : ℕ → Type 0) (i n m : ℕ) → ((j : ℕ) → j < n → P (i + j)) → ((j : ℕ) → j < m → P (i + n + j)) → (j : ℕ) → j < n + m → P (i + j)
 then-more P i n m f g j l = by_cases (dec_lt j n) (λ z. f j z) (λ z. subst P (let e : i + n + (j - n) ≡ i + j = omega (arith, z) in e) (g (j - n) (omega (arith, z))))
-
--- what holds of three and of four numbers
-pub of_three : (P : ℕ → Type 0) → P 0 → P 1 → P 2 → (j : ℕ) → j < 3 → P j
-of_three P a b c zero l = a
-of_three P a b c (suc zero) l = b
-of_three P a b c (suc (suc zero)) l = c
-of_three P a b c (suc (suc (suc j))) l = absurd (omega arith)
-
-pub of_four : (P : ℕ → Type 0) → P 0 → P 1 → P 2 → P 3 → (j : ℕ) → j < 4 → P j
-of_four P a b c d zero l = a
-of_four P a b c d (suc zero) l = b
-of_four P a b c d (suc (suc zero)) l = c
-of_four P a b c d (suc (suc (suc zero))) l = d
-of_four P a b c d (suc (suc (suc (suc j)))) l = absurd (omega arith)

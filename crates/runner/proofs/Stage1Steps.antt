@@ -21,7 +21,6 @@ use Rattle.rules.proofs.Basic.{combine-moved}
 use Rattle.rules.proofs.Early.{left-earlier, up-earlier, label_at-next, like-lit, combine-early, combine-empty, lower-early}
 use Rattle.rules.proofs.Whole.{early-at}
 use Rattle.rules.specs.Layout.{slot_width, pixel_count_place}
-use Rattle.rules.specs.Code.Bounds.{count_bound}
 use Rattle.rules.specs.Code.Early.{Early}
 use Rattle.runner.specs.declared.stage1.Into.{Into}
 use Rattle.runner.specs.declared.stage1.Into.TheVariants.{Nowhere, Zero, Up, Left, Fresh}
@@ -31,7 +30,7 @@ use Rattle.runner.specs.Code.Ops.{CanAdd, Added, CanAppend, Combined}
 use Rattle.runner.specs.Code.Stage1.{Holding, meets, goes_by, goes_into, is_nowhere, Opened, slot_for, table_for, next_for, count_for, Placing, Meeting, Sided, Taking}
 use Rattle.runner.proofs.RepStage1.{rep-fresh, rep-lower, labels-long}
 use Rattle.runner.proofs.Spots.{spot_in}
-use Rattle.runner.proofs.Stage1Laws.{rep-is, at-is, in_table, next-in, slot-in, few, count_of, can-add, can-begin, rep-added, rep-begun, can-append, rep-combined}
+use Rattle.runner.proofs.Stage1Laws.{rep-is, at-is, in_table, count_of, can-add, can-begin, rep-added, rep-begun, can-append, rep-combined}
 
 module _ {o : RunnerConfig} {w h : ℕ} {image : List ℕ} {shift i x y l u : ℕ} {s : State} {t₀ L K B E : List ℕ} {n m : ℕ} (P : Placing o w h image shift i x y l u s t₀ L K B E n m) where
   module _ {c : Color} (e : c ≡ pixel image i) where
@@ -80,10 +79,6 @@ module _ {o : RunnerConfig} {w h : ℕ} {image : List ℕ} {shift i x y l u : �
       go false b e₁ e₂ true false true z = absurd (true≢false (sym z))
       go false b e₁ e₂ true false false z = absurd (true≢false (sym z))
       go false b e₁ e₂ false q r z = absurd (true≢false (sym z))
-
-  -- slot next is there
-  pub next-slot : (slot_width * n + slot_width ≤ length B) × (n < count_bound)
-  next-slot = (omega (arith, P.holding.free, next-in P), omega (arith, P.holding.free, few P))
 
   module _ {c : Color} (e : c ≡ pixel image i) {B'' : List ℕ} {k n' m' : ℕ} {to : Into} where
     -- the slot can take the pixel
@@ -134,16 +129,6 @@ module _ {o : RunnerConfig} {w h : ℕ} {image : List ℕ} {shift i x y l u : �
   -- a merge leaves as many slots
   counted : (f t : ℕ) → f ≢ t → f < s.next_index → t < s.next_index → m ≡ length (combine_clusters f t s).clusters
   counted f t d hf ht = M.placing.holding.slots ∙ sym (combine-moved f t s d (in_table M.placing f hf) (in_table M.placing t ht)).table
-
-  -- the counts can be read
-  pub left_in : slot_width * l + slot_width ≤ length B
-  left_in = slot-in M.placing l hl
-
-  pub up_in : slot_width * u + slot_width ≤ length B
-  up_in = slot-in M.placing u hu
-
-  pub left-few : l < count_bound
-  left-few = omega (arith, hl, few M.placing)
 
   pub left-into-up : CanAppend l u L K B E
   left-into-up = can-append M.placing l u M.differ hl hu

@@ -7,6 +7,7 @@ pub mod Ops
 pub mod Given
 pub mod Queue
 pub mod Neighbours
+pub mod Visits
 pub mod Interior
 pub mod Stage1
 pub mod Spans

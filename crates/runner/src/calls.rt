@@ -1,6 +1,5 @@
 // An accepted run: stage 1, stage 2, and what is left at the end.
-ghost use Rattle.std.specs.Prelude.{◌≡◌, false, ◌*◌, ◌≤◌, pos, length};
-ghost use Rattle.rules.specs.Refusals.{bad_shift};
+ghost use Rattle.std.specs.Prelude.{◌≡◌, ◌*◌, ◌≤◌, length};
 ghost use Rattle.rules.specs.Run.{run};
 ghost use Rattle.rules.specs.Calls.{answered};
 ghost use Rattle.rules.specs.Calls as rules;
@@ -52,7 +51,7 @@ fn both_stages(b: &mut Builder, work: &mut Work, outputs: &mut [u32], input: &In
 {
     let n = label_image(b, work, input);
     let t = stage2::stage_2(b, work, input, n);
-    let m = outputs::drop_empty(b, work, outputs, t.m);
+    let m = outputs::drop_empty(b, &work.staged[..t.m as usize], outputs);
     Counts { n, m }
 }
 

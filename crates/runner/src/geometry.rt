@@ -1,6 +1,6 @@
-// The boundary test of a cluster, after geometry.rs. With a smallest area of 1 or more the boundary is smaller than the
-// area exactly if some pixel of the list has its four neighbours in the list, so nothing is counted and the scan stops
-// at the first such pixel.
+// Whether a cluster deepens, after `patch_good` of runner.rs and the boundary test of geometry.rs. With a smallest area
+// of 1 or more the boundary is smaller than the area exactly if some pixel of the list has its four neighbours in the
+// list, so nothing is counted and the scan stops at the first such pixel.
 ghost use Rattle.std.specs.Prelude.{◌≡◌, ◌+◌, ◌*◌, ◌≤◌, ◌<◌, T, length, get_or};
 ghost use Rattle.rules.specs.Grid.{sides};
 ghost use Rattle.rules.specs.Layout.{walk, slot_width, first_pixel_place, InTable};
@@ -8,60 +8,111 @@ ghost use Rattle.rules.specs.Paint.{reads};
 ghost use Rattle.rules.specs.Stage2.{all_in};
 ghost use Rattle.runner.specs.Types.{config_of};
 ghost use Rattle.runner.specs.Code.Interior.{in_list, some_inside};
+ghost use Rattle.runner.specs.Code.Stage2.{patch_good_at, deepens_at};
 
 use super::builder::Builder;
 use super::input::Input;
 use super::queue::Entry;
 use super::{keying, slot};
+use crate::HIERARCHICAL_MAX;
 
-// Whether pixel q is in the list of cluster k, by its label.
-fn in_list(b: &Builder, input: &Input, k: u32, q: u32) -> bool
-    requires { (q < input.now.w * input.now.h) × (input.now.w * input.now.h ≡ length b.now.labels.now) }
-    ensures { result ≡ in_list (config_of input.now.o) input.now.image.now b.now.labels.now k q }
-{
-    b.labels[q as usize] == k && !keying::is_discarded(input.image, input.o, q)
+// The cluster of a slot and what is read of it: the labels, and its list of `area` pixels from the first one, plus one,
+// along the links.
+#[derive(Clone, Copy)]
+struct Candidate<'a> {
+    input: &'a Input<'a>,
+    labels: &'a [u32],
+    links: &'a [u32],
+    slot: u32,
+    first: u32,
+    area: u32,
+    ghost labelled: { input.now.w * input.now.h ≡ length labels.now },
+    ghost linked: { input.now.w * input.now.h ≤ length links.now },
+    ghost listed: { T (reads (input.now.w * input.now.h) links.now first area) },
 }
 
-// Whether pixel p has its four neighbours in the list of cluster k.
-#[tactic(auto, unfolding(rules::specs::Grid::sides, rules::specs::Stage2::all_in))]
-fn surrounded(b: &Builder, input: &Input, k: u32, p: u32) -> bool
-    requires { (p < input.now.w * input.now.h) × (input.now.w * input.now.h ≡ length b.now.labels.now) }
-    ensures { result
-        ≡ all_in (in_list (config_of input.now.o) input.now.image.now b.now.labels.now k)
-        (sides input.now.w input.now.h p) }
-{
-    let (w, h) = (input.w, input.h);
-    let x = p % w;
-    w <= p
-        && p + w < w * h
-        && 0 < x
-        && x + 1 < w
-        && in_list(b, input, k, p - w)
-        && in_list(b, input, k, p + w)
-        && in_list(b, input, k, p - 1)
-        && in_list(b, input, k, p + 1)
+impl<'a> Candidate<'a> {
+    // Whether pixel q is in the list, by its label.
+    fn in_list(self, q: u32) -> bool
+        requires { q < self.input.now.w * self.input.now.h }
+        ensures { let c = self.entry in let p = c.input.now in
+            result ≡ in_list (config_of p.o) p.image.now c.labels.now c.slot q }
+    {
+        self.labels[q as usize] == self.slot
+            && !keying::is_discarded(self.input.image, self.input.o, q)
+    }
+
+    // Whether pixel p has its four neighbours in the list.
+    #[tactic(auto, unfolding(rules::specs::Grid::sides, rules::specs::Stage2::all_in))]
+    fn surrounded(self, p: u32) -> bool
+        requires { p < self.input.now.w * self.input.now.h }
+        ensures { let c = self.entry in let i = c.input.now in
+            result ≡ all_in (in_list (config_of i.o) i.image.now c.labels.now c.slot) (sides i.w i.h p) }
+    {
+        let (w, h) = (self.input.w, self.input.h);
+        let x = p % w;
+        w <= p
+            && p + w < w * h
+            && 0 < x
+            && x + 1 < w
+            && self.in_list(p - w)
+            && self.in_list(p + w)
+            && self.in_list(p - 1)
+            && self.in_list(p + 1)
+    }
+
+    // Whether some pixel of the list has its four neighbours in it.
+    #[tactic(auto, unfolding(crate::specs::Code::Interior::some_inside), using(rules::proofs::Walks::walk_none, rules::proofs::Walks::step))]
+    fn has_interior(self) -> bool
+        ensures { let c = self.entry in let p = c.input.now in
+            result ≡ some_inside (config_of p.o) p.image.now c.labels.now p.w p.h c.slot
+            (walk (λ p. get_or c.links.now p 0) c.first c.area) }
+    {
+        let mut at = self.first;
+        for _ in 0..self.area {
+            let p = at - 1;
+            if self.surrounded(p) {
+                return true;
+            }
+            at = self.links[p as usize];
+        }
+        false
+    }
+
+    // Whether it may stay a patch: a boundary smaller than the area is told by one pixel inside.
+    #[tactic(auto, unfolding(crate::specs::Code::Stage2::patch_good_at))]
+    fn patch_good(self) -> bool
+        ensures { let c = self.entry in let p = c.input.now in
+            result ≡ patch_good_at (config_of p.o) p.image.now c.labels.now c.links.now p.w p.h c.slot c.first c.area }
+    {
+        let o = &self.input.o;
+        o.good_min_area < self.area
+            && self.area < o.good_max_area
+            && (o.good_min_area == 0 || self.has_interior())
+    }
 }
 
-// Whether some pixel of the list of an entry's cluster has its four neighbours in that list.
-#[tactic(auto, unfolding(crate::specs::Code::Interior::some_inside), using(rules::proofs::Walks::walk_none, rules::proofs::Walks::step))]
-pub(crate) fn has_interior(b: &Builder, input: &Input, e: Entry) -> bool
+// Whether the cluster of an entry deepens into a neighbour of difference diff.
+#[tactic(auto, unfolding(crate::specs::Code::Stage2::deepens_at))]
+pub(crate) fn deepens(b: &Builder, input: &Input, e: Entry, diff: u32) -> bool
     requires slot { InTable e.slot b.now.table.now }
-    requires pixels { (input.now.w * input.now.h ≡ length b.now.labels.now)
-        × (input.now.w * input.now.h ≤ length b.now.links.now) }
+    requires lengths { let size = input.now.w * input.now.h in
+        (size ≡ length b.now.labels.now) × (size ≤ length b.now.links.now) }
     requires list { T (reads (input.now.w * input.now.h) b.now.links.now
         (get_or b.now.table.now (slot_width * e.slot + first_pixel_place) 0) e.key) }
+    requires diff_bound { diff < 2147483648 }
     ensures { let p = input.now in result
-        ≡ some_inside (config_of p.o) p.image.now b.now.labels.now p.w p.h e.slot
-        (walk (λ p. get_or b.now.links.now p 0)
-        (get_or b.now.table.now (slot_width * e.slot + first_pixel_place) 0) e.key) }
+        ≡ deepens_at (config_of p.o) p.image.now b.now.labels.now b.now.links.now p.w p.h e.slot
+        (get_or b.now.table.now (slot_width * e.slot + first_pixel_place) 0) e.key diff }
 {
-    let mut at = slot::first_pixel(b.table, e.slot);
-    for _ in 0..e.key {
-        let p = at - 1;
-        if surrounded(b, input, e.slot, p) {
-            return true;
-        }
-        at = b.links[p as usize];
-    }
-    false
+    let o = &input.o;
+    let candidate = Candidate {
+        input,
+        labels: &*b.labels,
+        links: &*b.links,
+        slot: e.slot,
+        first: slot::first_pixel(b.table, e.slot),
+        area: e.key,
+    };
+    o.hierarchical == HIERARCHICAL_MAX && o.deepen_diff < diff as i32 && candidate.patch_good()
 }

@@ -1,18 +1,9 @@
 // Labels written for many pixels at once.
-ghost use Rattle.std.specs.Prelude.{◌≡◌, List, ℕ, ◌+◌, ◌≤◌, ◌<◌, length, get_or};
+ghost use Rattle.std.specs.Prelude.{◌≡◌, List, ℕ, ◌<◌, get_or};
 ghost use Rattle.rules.specs.State as rules;
 ghost use Rattle.rules.specs.Layout.{walk};
-ghost use Rattle.rules.specs.Code.Spans.{set_from, Consecutive};
-ghost use Rattle.rules.specs.Code.Bounds.{count_bound};
+ghost use Rattle.rules.specs.Code.Spans.{Consecutive};
 ghost use Rattle.runner.specs.Code.Labelling.{CanRelabel, Relabels};
-
-// n labels from i on become k.
-pub(crate) fn fill(labels: &mut [u32], i: u32, n: u32, k: u32)
-    requires { (i + n ≤ length labels.old) × (i + n < count_bound) }
-    ensures { labels.new ≡ set_from labels.old i n k }
-{
-    labels[i as usize..(i + n) as usize].fill(k);
-}
 
 // What is left of a list: its first pixel, plus one, and the number of its pixels.
 #[derive(Clone, Copy)]
@@ -48,7 +39,7 @@ fn relabel_stretch(labels: &mut [u32], links: &[u32], rest: Rest, t: u32) -> Res
     let after = links[(at - 1) as usize];
     if after == at + 1 {
         let n = stretch(links, rest);
-        fill(labels, at - 1, n + 1, t);
+        labels[(at - 1) as usize..(at + n) as usize].fill(t);
         return Rest {
             at: links[(at - 1 + n) as usize],
             left: left - (n + 1),

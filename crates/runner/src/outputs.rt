@@ -1,11 +1,10 @@
 // What a run leaves at its end: the outputs that still count something.
-ghost use Rattle.std.specs.Prelude.{◌≡◌, ℕ, ◌+◌, ◌*◌, ◌≤◌, ◌<◌, length, get_or, take};
+ghost use Rattle.std.specs.Prelude.{◌≡◌, ℕ, ◌≤◌, ◌<◌, length, get_or};
 ghost use Rattle.rules.specs.Calls.{over};
-ghost use Rattle.rules.specs.Layout.{slot_width, InTable};
+ghost use Rattle.rules.specs.Layout.{InTable};
 ghost use Rattle.runner.specs.Code.Outputs.{Kept, counted};
 
 use super::builder::Builder;
-use super::stage2::Work;
 use image::layout;
 
 // Entry k is kept as number `kept` of the outputs if its sum counts something; answers how many are kept now.
@@ -20,16 +19,15 @@ fn keep_entry(table: &[u32], outputs: &mut [u32], k: u32, kept: u32) -> u32
     kept
 }
 
-// Copies those of the first m staged entries whose sum counts something to the outputs, and answers how many they are.
-pub(crate) fn drop_empty(b: &Builder, work: &Work, outputs: &mut [u32], m: u32) -> u32
-    requires m_in_bounds { (m ≤ length work.now.staged.now) × (m ≤ length outputs.old) }
-    requires by_index { (i : ℕ) → i < m
-        → slot_width * get_or work.now.staged.now i 0 + slot_width ≤ length b.now.table.now }
-    ensures { (outputs.new ≡ over (counted b.now.table.now (take m work.now.staged.now)) outputs.old)
-        × (result ≡ length (counted b.now.table.now (take m work.now.staged.now))) }
+// Copies those of the staged entries whose sum counts something to the outputs, and answers how many they are.
+pub(crate) fn drop_empty(b: &Builder, staged: &[u32], outputs: &mut [u32]) -> u32
+    requires few { (length staged.now ≤ length outputs.old) × (length staged.now < 4294967296) }
+    requires slots { (i : ℕ) → i < length staged.now → InTable (get_or staged.now i 0) b.now.table.now }
+    ensures { (outputs.new ≡ over (counted b.now.table.now staged.now) outputs.old)
+        × (result ≡ length (counted b.now.table.now staged.now)) }
 {
     let mut kept = 0;
-    for &k in &work.staged[..m as usize] {
+    for &k in staged {
         kept = keep_entry(b.table, outputs, k, kept);
     }
     kept

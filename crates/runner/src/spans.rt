@@ -1,5 +1,5 @@
 // Spans of stage 1: pixels of a row that go into the cluster of the pixel before them, found and then added at once.
-ghost use Rattle.std.specs.Prelude.{◌≡◌, true, false, ℕ, ◌+◌, ◌-◌, ◌*◌, ◌≤◌, ◌<◌, pos, length, get_or};
+ghost use Rattle.std.specs.Prelude.{◌≡◌, true, false, ℕ, ◌+◌, ◌*◌, ◌/◌, ◌≤◌, ◌<◌, pos, length, get_or};
 ghost use Rattle.rules.specs.Base.{apart};
 ghost use Rattle.rules.specs.Stage1.{is_key};
 ghost use Rattle.rules.specs.Code.Spans.{sum_from, Extends, AllExtend};
@@ -7,17 +7,17 @@ ghost use Rattle.rules.specs.Refusals.{limit};
 ghost use Rattle.rules.specs.Code.Bounds.{count_bound};
 ghost use Rattle.color.specs.Colors.{sum_of};
 ghost use Rattle.runner.specs.Types.{config_of};
-ghost use Rattle.runner.specs.Code.Spans.{linked_from, CanAddSpan, AddedSpan, RowRest, FoundSpan, LimitsOf};
-ghost use Rattle.runner.specs.Code.Spans.{Fitting, ManyNear};
+ghost use Rattle.runner.specs.Code.Given.{Spot};
+ghost use Rattle.runner.specs.Code.Spans.{linked_from, CanAddSpan, AddedSpan, FoundSpan, LimitsOf, ManyNear};
 ghost use Rattle.runner.specs.Code.Lists.{of_lists, SameLists};
 
 use super::bound::BoundingRect;
 use super::builder::Builder;
 use super::input::{Input, Pixel};
 use super::slot::Head;
-use super::{builder, keying, labelling, slot, stage1};
+use super::{builder, keying, slot, stage1};
 use crate::RunnerConfig;
-use color::ColorSum;
+use color::{Color, ColorSum};
 
 // Each of n pixels from i on is linked to the one after it.
 #[tactic(auto, unfolding(crate::specs::Code::Spans::linked_from))]
@@ -30,14 +30,14 @@ fn chain_links(links: &mut [u32], i: u32, n: u32)
     }
 }
 
-// The colours of n pixels from i on, summed.
-fn sum_colors(image: &[u8], i: u32, n: u32) -> ColorSum
-    requires { (4 * (i + n) ≤ length image.now) × (i + n < count_bound) }
-    ensures { sum_of result ≡ sum_from image.now i n }
+// The colours of pixels, of four bytes each, summed.
+fn sum_colors(bytes: &[u8]) -> ColorSum
+    requires { length bytes.now < 4 * count_bound }
+    ensures { sum_of result ≡ sum_from bytes.now 0 (length bytes.now / 4) }
 {
     let mut s = ColorSum::default();
-    for j in i..i + n {
-        s = s.plus(ColorSum::from(keying::color_at(image, j)));
+    for &[r, g, b, a] in bytes.as_chunks::<4>().0 {
+        s = s.plus(ColorSum::from(Color { r, g, b, a }));
     }
     s
 }
@@ -48,6 +48,7 @@ pub(crate) fn add_span(b: &mut Builder, image: &[u8], k: u32, at: Pixel, n: u32)
     ensures loans { SameLists b.old b.new }
     ensures added { of_lists (of_lists (AddedSpan image.now k at.i at.x at.y n) b.old) b.new }
 {
+    let labels = &mut *b.labels;
     let links = &mut *b.links;
     let table = &mut *b.table;
     let ends = &mut *b.ends;
@@ -61,33 +62,13 @@ pub(crate) fn add_span(b: &mut Builder, image: &[u8], k: u32, at: Pixel, n: u32)
             right: at.x + n,
             bottom: at.y + 1,
         },
-        sum: sum_colors(image, at.i, n),
+        sum: sum_colors(&image[4 * at.i as usize..4 * (at.i + n) as usize]),
     };
     builder::link_after(links, s.count, ends[k as usize], at.i + 1);
     chain_links(links, at.i, n - 1);
-    labelling::fill(b.labels, at.i, n, k);
+    labels[at.i as usize..(at.i + n) as usize].fill(k);
     ends[k as usize] = at.i + n;
     slot::save_head(table, k, s.with_cluster(span));
-}
-
-// Whether pixel i, behind the first column and the first row, extends cluster k.
-fn extends(input: &Input, labels: &[u32], i: u32, k: u32) -> bool
-    requires { (input.now.w + 1 ≤ i) × (i < length labels.now) × (4 * i + 4 ≤ length input.now.image.now) }
-    ensures { result ≡ true → Extends (config_of input.now.o) input.now.w input.now.image.now labels.now k i }
-{
-    let image = input.image;
-    if labels[(i - input.w) as usize] != k {
-        return false;
-    }
-    let c = Some(keying::color_at(image, i));
-    let up = Some(keying::color_at(image, i - input.w));
-    if stage1::is_same(input, c, up) {
-        let up_left = Some(keying::color_at(image, i - input.w - 1));
-        if stage1::is_same(input, c, up_left) {
-            return !keying::is_key(image, input.o, i);
-        }
-    }
-    false
 }
 
 // How far apart two channels that count may be, as far as a byte goes.
@@ -150,45 +131,80 @@ fn four_free(image: &[u8], o: RunnerConfig, i: u32) -> bool
         & !keying::is_key(image, o, i + 3)
 }
 
-// Whether the four pixels from i on, behind the first column and the first row, extend cluster k.
-fn four_extend(input: &Input, labels: &[u32], limits: &[u8; 16], i: u32, k: u32) -> bool
-    requires w_bound { (input.now.w + 1 ≤ i) × (i + 4 ≤ length labels.now) × (4 * i + 16 ≤ length input.now.image.now) }
-    requires i_lt_count_bound { i < count_bound }
-    ensures { result ≡ true → Fitting (config_of input.now.o) input.now.shift limits.now
-        → AllExtend (config_of input.now.o) input.now.w input.now.image.now labels.now k i 4 }
-{
-    if !four_in_cluster(labels, i - input.w, k) {
-        return false;
-    }
-    if four_far(input.image, i, i - input.w, input.shift, limits) != 0 {
-        return false;
-    }
-    four_free(input.image, input.o, i)
+// The tests of pixels that may extend cluster k: what they read, and the limits of the settings.
+#[derive(Clone, Copy)]
+struct Reach<'a> {
+    input: &'a Input<'a>,
+    labels: &'a [u32],
+    limits: &'a [u8; 16],
+    k: u32,
+    ghost labelled: { input.now.w * input.now.h ≤ length labels.now },
+    ghost limited: { LimitsOf (config_of input.now.o) limits.now },
 }
 
-// How many pixels from i on, of `room`, extend cluster k, as far as they do so by fours.
-fn fours(input: &Input, labels: &[u32], limits: &[u8; 16], i: u32, k: u32, room: u32) -> u32
-    requires w_bound { (input.now.w + 1 ≤ i) × (i + room ≤ length labels.now)
-        × (4 * (i + room) ≤ length input.now.image.now) }
-    requires room_bound { i + room < count_bound }
-    ensures { (result ≤ room) × (Fitting (config_of input.now.o) input.now.shift limits.now
-        → AllExtend (config_of input.now.o) input.now.w input.now.image.now labels.now k i result) }
-{
-    for four in 0..room / 4 {
-        let n = 4 * four;
-        if !four_extend(input, labels, limits, i + n, k) {
-            return n;
+impl<'a> Reach<'a> {
+    // Whether pixel i, behind the first column and the first row, extends the cluster.
+    fn extends(self, i: u32) -> bool
+        requires { (self.input.now.w + 1 ≤ i) × (i < self.input.now.w * self.input.now.h) }
+        ensures { let s = self.entry in let p = s.input.now in
+            result ≡ true → Extends (config_of p.o) p.w p.image.now s.labels.now s.k i }
+    {
+        let input = self.input;
+        let image = input.image;
+        if self.labels[(i - input.w) as usize] != self.k {
+            return false;
         }
+        let c = Some(keying::color_at(image, i));
+        let up = Some(keying::color_at(image, i - input.w));
+        if stage1::is_same(input, c, up) {
+            let up_left = Some(keying::color_at(image, i - input.w - 1));
+            if stage1::is_same(input, c, up_left) {
+                return !keying::is_key(image, input.o, i);
+            }
+        }
+        false
     }
-    4 * (room / 4)
+
+    // Whether the four pixels from i on, behind the first column and the first row, extend it.
+    fn four_extend(self, i: u32) -> bool
+        requires { (self.input.now.w + 1 ≤ i) × (i + 4 ≤ self.input.now.w * self.input.now.h) }
+        ensures { let s = self.entry in let p = s.input.now in
+            result ≡ true → (t : ℕ) → p.o.is_same_color_b ≡ pos t
+            → AllExtend (config_of p.o) p.w p.image.now s.labels.now s.k i 4 }
+    {
+        let input = self.input;
+        if !four_in_cluster(self.labels, i - input.w, self.k) {
+            return false;
+        }
+        if four_far(input.image, i, i - input.w, input.shift, self.limits) != 0 {
+            return false;
+        }
+        four_free(input.image, input.o, i)
+    }
+
+    // How many pixels from i on, of `room`, extend it, as far as they do so by fours.
+    fn fours(self, i: u32, room: u32) -> u32
+        requires { (self.input.now.w + 1 ≤ i) × (i + room ≤ self.input.now.w * self.input.now.h) }
+        ensures { let s = self.entry in let p = s.input.now in
+            (result ≤ room) × ((t : ℕ) → p.o.is_same_color_b ≡ pos t
+            → AllExtend (config_of p.o) p.w p.image.now s.labels.now s.k i result) }
+    {
+        for four in 0..room / 4 {
+            let n = 4 * four;
+            if !self.four_extend(i + n) {
+                return n;
+            }
+        }
+        4 * (room / 4)
+    }
 }
 
 // How many pixels from a pixel on extend the cluster of the pixel to its left.
 pub(crate) fn span_length(input: &Input, b: &Builder, limits: &[u8; 16], at: Pixel) -> u32
-    requires row_rest { RowRest input.now.w at.i at.x at.y input.now.image.now b.now.labels.now }
+    requires spot { Spot input.now.w input.now.h at.i at.x at.y }
+    requires labelled { input.now.w * input.now.h ≤ length b.now.labels.now }
     requires limits_of { LimitsOf (config_of input.now.o) limits.now }
-    ensures { FoundSpan (config_of input.now.o) input.now.shift input.now.w input.now.image.now b.now.labels.now
-        at.i at.x at.y result }
+    ensures { FoundSpan (config_of input.now.o) input.now.w input.now.image.now b.now.labels.now at.i at.x at.y result }
 {
     if at.x == 0 || at.y == 0 {
         return 0;
@@ -196,13 +212,19 @@ pub(crate) fn span_length(input: &Input, b: &Builder, limits: &[u8; 16], at: Pix
     let i = at.i;
     let labels = &*b.labels;
     let k = labels[(i - 1) as usize];
-    if !extends(input, labels, i, k) {
+    let reach = Reach {
+        input,
+        labels,
+        limits,
+        k,
+    };
+    if !reach.extends(i) {
         return 0;
     }
     let room = input.w - at.x;
-    let found = 1 + fours(input, labels, limits, i + 1, k, room - 1);
+    let found = 1 + reach.fours(i + 1, room - 1);
     for n in found..room {
-        if !extends(input, labels, i + n, k) {
+        if !reach.extends(i + n) {
             return n;
         }
     }

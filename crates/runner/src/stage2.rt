@@ -1,14 +1,12 @@
 // Stage 2, merges and the output order, after `stage_2` of builder.rs.
-ghost use Rattle.std.specs.Prelude.{◌≡◌, true, List, ℕ, ◌+◌, ◌*◌, ◌≤◌, ◌<◌, T, length, get_or};
-ghost use Rattle.rules.specs.Color;
-ghost use Rattle.rules.specs.Paint.{reads};
+ghost use Rattle.std.specs.Prelude.{◌≡◌, true, List, ℕ, ◌+◌, ◌*◌, ◌≤◌, ◌<◌, length};
 ghost use Rattle.rules.specs.Run.{stage1, stage2};
-ghost use Rattle.rules.specs.Layout.{slot_width, first_pixel_place, InTable};
+ghost use Rattle.rules.specs.Layout.{slot_width, InTable};
 ghost use Rattle.rules.specs.Code.Bounds.{count_bound};
 ghost use Rattle.runner.specs.Types.{config_of};
 ghost use Rattle.runner.specs.Code.Lists.{of_work, of_slots, of_input, SameLists, SameWork};
-ghost use Rattle.runner.specs.Code.Queue.{queue_key, SameQueue};
-ghost use Rattle.runner.specs.Code.Stage2.{Prepared, PreparedSlot, patch_good_at, deepens_at, CanPut, Put, goes_out};
+ghost use Rattle.runner.specs.Code.Queue.{SameQueue};
+ghost use Rattle.runner.specs.Code.Stage2.{Prepared, PreparedSlot, CanPut, Put, goes_out};
 ghost use Rattle.runner.specs.Code.Stage2.{CanGrow, Grown, Between, Chosen, Visiting, Aimed, Deepening, Visited};
 ghost use Rattle.runner.specs.Code.Stage2.{Entered, Staged};
 
@@ -17,7 +15,7 @@ use super::cluster::Nearest;
 use super::input::Input;
 use super::queue::{Entry, Queue};
 use super::{cluster, geometry, keying, queue, slot};
-use crate::{HIERARCHICAL_MAX, RunnerConfig};
+use crate::RunnerConfig;
 
 // What stage 2 has beside the lists, for room = w × h + 1 slots: the queue of pending slots (3 × room), the marks of
 // the neighbours (room), and the outputs before any is dropped (2 × room).
@@ -60,42 +58,6 @@ fn prepare_slot(table: &mut [u32], queue: &mut Queue, k: u32) -> u32
     slot::save_residue(table, k, s.sum);
     queue.numbers[k as usize] = if s.count == 0 { queue::NONE } else { s.count };
     s.count
-}
-
-// Whether the cluster of an entry may stay a patch, after `patch_good` of runner.rs: a boundary smaller than the area
-// is told by one pixel inside.
-#[tactic(auto, unfolding(crate::specs::Code::Stage2::patch_good_at))]
-fn patch_good(b: &Builder, input: &Input, e: Entry) -> bool
-    requires slot { InTable e.slot b.now.table.now }
-    requires pixels { (input.now.w * input.now.h ≡ length b.now.labels.now)
-        × (input.now.w * input.now.h ≤ length b.now.links.now) }
-    requires list { T (reads (input.now.w * input.now.h) b.now.links.now
-        (get_or b.now.table.now (slot_width * e.slot + first_pixel_place) 0) e.key) }
-    ensures { let p = input.now in result
-        ≡ patch_good_at (config_of p.o) p.image.now b.now.labels.now b.now.links.now p.w p.h e.slot
-        (get_or b.now.table.now (slot_width * e.slot + first_pixel_place) 0) e.key }
-{
-    let o = &input.o;
-    o.good_min_area < e.key
-        && e.key < o.good_max_area
-        && (o.good_min_area == 0 || geometry::has_interior(b, input, e))
-}
-
-// Whether it deepens into a neighbour of difference diff.
-#[tactic(auto, unfolding(crate::specs::Code::Stage2::deepens_at))]
-fn deepens(b: &Builder, input: &Input, e: Entry, diff: u32) -> bool
-    requires slot { InTable e.slot b.now.table.now }
-    requires pixels { (input.now.w * input.now.h ≡ length b.now.labels.now)
-        × (input.now.w * input.now.h ≤ length b.now.links.now) }
-    requires list { T (reads (input.now.w * input.now.h) b.now.links.now
-        (get_or b.now.table.now (slot_width * e.slot + first_pixel_place) 0) e.key) }
-    requires diff_bound { diff < 2147483648 }
-    ensures { let p = input.now in result
-        ≡ deepens_at (config_of p.o) p.image.now b.now.labels.now b.now.links.now p.w p.h e.slot
-        (get_or b.now.table.now (slot_width * e.slot + first_pixel_place) 0) e.key diff }
-{
-    let o = &input.o;
-    o.hierarchical == HIERARCHICAL_MAX && o.deepen_diff < diff as i32 && patch_good(b, input, e)
 }
 
 // Cluster k is put out.
@@ -165,7 +127,7 @@ fn merge_into_nearest(
         → of_slots (of_input Visiting input.now t₀) b.old work.old t e.slot e.key (t.turns + 1)
         → of_slots (of_input Visited input.now t₀) b.new work.new t result e.slot }
 {
-    if deepens(b, input, e, near.diff) {
+    if geometry::deepens(b, input, e, near.diff) {
         return deepen_into_nearest(b, work, input, t, e.slot, near);
     }
     b.merge_cluster_into(e.slot, near.target);

@@ -1,9 +1,10 @@
 -- The neighbours of a cluster as a scan with marks finds them: how many, the nearest, and its difference.
 use Rattle.std.specs.Prelude.{◌≡◌, ◌≢◌, Bool, ◌&&◌, ◌||◌, List, [], ◌∷◌, ℕ, ◌+◌, ◌*◌, ◌≤◌, ◌<◌, T, eqb, ltb, length}
-use Rattle.std.specs.Prelude.{get_or, set, if◌then◌else◌}
+use Rattle.std.specs.Prelude.{get_or, set, map, if◌then◌else◌}
 use Rattle.std.proofs.Math.Option.{Option, none, some}
 use Rattle.rules.specs.Base.{each, least}
 use Rattle.rules.specs.Color.{Color, color_diff, average, has_average}
+use Rattle.rules.specs.Grid.{sides}
 use Rattle.rules.specs.Layout.{walk, slot_width, first_pixel_place, pixel_count_place}
 use Rattle.rules.specs.Paint.{reads}
 use Rattle.rules.specs.Stage2.{labels_around}
@@ -14,6 +15,10 @@ use Rattle.runner.specs.Code.Slots.{sum_at}
 abbrev pub place_label : List ℕ → Option ℕ → ℕ
 place_label labels none = 0
 place_label labels (some i) = get_or labels i 0
+
+-- the labels up, down, left and right of pixel p, 0 off the image
+abbrev pub around : List ℕ → ℕ → ℕ → ℕ → List ℕ
+around labels w h p = map (place_label labels) (sides w h p)
 
 -- the difference of the average of cluster l from a colour
 abbrev pub diff_from : List ℕ → Color → ℕ → ℕ

@@ -41,19 +41,11 @@ pub record Extending (o : RunnerConfig) (w h : ℕ) (image : List ℕ) (shift i 
   pub before : get_or L (i - 1) 0 ≡ k
   pub tests : AllExtend o w image L k i n
 
--- pixel i, at column x and row y, with the rest of its row
-pub record RowRest (w i x y : ℕ) (image L : List ℕ) : Type 0 where
-  pub index : i ≡ w * y + x
-  pub column : x < w
-  pub bytes : 4 * (i + (w - x)) ≤ length image
-  pub labels : i + (w - x) ≤ length L
-  pub small : i + (w - x) < count_bound
-
 -- n pixels from i on extend the cluster of the pixel before them
-pub record FoundSpan (o : RunnerConfig) (shift w : ℕ) (image L : List ℕ) (i x y n : ℕ) : Type 0 where
+pub record FoundSpan (o : RunnerConfig) (w : ℕ) (image L : List ℕ) (i x y n : ℕ) : Type 0 where
   pub within : x + n ≤ w
   pub inner : 0 < n → (0 < x) × (0 < y)
-  pub tests : o.is_same_color_a ≡ pos shift → AllExtend o w image L (get_or L (i - 1) 0) i n
+  pub tests : AllExtend o w image L (get_or L (i - 1) 0) i n
 
 -- a limit for each byte of four pixels: at most t for the channels that count
 abbrev pub Limits : ℕ → List ℕ → Type 0
@@ -62,13 +54,6 @@ Limits t limits = (q c : ℕ) → q < 4 → c < 3 → get_or limits (4 * q + c) 
 -- the limits of the settings, whose bound may be negative
 abbrev pub LimitsOf : RunnerConfig → List ℕ → Type 0
 LimitsOf o limits = (t : ℕ) → o.is_same_color_b ≡ pos t → Limits t limits
-
--- shift and limits are those of the settings, whose bound is not negative
-pub record Fitting (o : RunnerConfig) (shift : ℕ) (limits : List ℕ) : Type 0 where
-  pub shifted : o.is_same_color_a ≡ pos shift
-  pub bound : ℕ
-  pub bounded : o.is_same_color_b ≡ pos bound
-  pub limited : Limits bound limits
 
 -- n bytes from pixel a on are within their limits of those from pixel b on, and of those from pixel b - 1 on
 abbrev pub ManyNear : ℕ → List ℕ → List ℕ → ℕ → ℕ → ℕ → Type 0

@@ -1,9 +1,6 @@
 use mathlib.Core.Path.{◌≡◌, refl, ap, ◌∙◌}
-use mathlib.Core.Logic.{◌≢◌}
-use mathlib.Core.List.{List, ◌∷◌, map, []}
-use mathlib.Core.Option.{Option, some}
-use mathlib.Core.Option.{none as off}
-use Prim.Native.Nat.{ℕ, zero, suc, ◌+◌, ◌-◌, ◌*◌, ◌≤◌, ◌<◌}
+use mathlib.Core.List.{List, map}
+use Prim.Native.Nat.{ℕ, ◌+◌, ◌-◌, ◌*◌, ◌≤◌, ◌<◌}
 use native.Mathlib.Omega.{arith}
 use lib.ListN.{length, get_or}
 use Rattle.rules.specs.Color.{Color, average}
@@ -11,10 +8,9 @@ use Rattle.rules.specs.Grid.{sides}
 use Rattle.rules.specs.Layout.{slot_width, pixel_count_place}
 use Rattle.rules.specs.Code.Bounds.{capacity}
 use Rattle.rules.specs.Stage2.{labels_at, labels_around}
-use Rattle.rules.proofs.Connected.{AllSome}
 use Rattle.rules.proofs.Labels.{sides-fit}
 use Rattle.runner.specs.Code.Slots.{sum_at}
-use Rattle.runner.specs.Code.Neighbours.{place_label, diff_from, diff_at, nearest_of, Scan, noted_four, Notable, Scannable, Found}
+use Rattle.runner.specs.Code.Neighbours.{place_label, diff_from, diff_at, nearest_of, Scan, noted_four, Scannable, Found}
 use Rattle.rules.proofs.Walks.{Step, step, walk_none}
 use Rattle.runner.proofs.Nearest.{each-length, each-count, each_holds}
 use Rattle.runner.proofs.cluster.neighbours.Invariants.{Going}
@@ -22,22 +18,6 @@ use Rattle.runner.proofs.cluster.neighbours.Goals as goal
 use Rattle.runner.proofs.cluster.neighbours.Goals.{In-loop}
 
 module _ (labels links table marks : List ℕ) (w h k visit : ℕ) (small : w * h ≤ capacity) (S : Scannable labels links table marks w h k visit) where
-  -- the labels at places of the image
-  notable : (is : List (Option ℕ)) → AllSome (λ q. q < w * h) is → (i : ℕ) → get_or (map (place_label labels) is) i 0 ≢ 0 → Notable table (length marks) (get_or (map (place_label labels) is) i 0)
-  notable [] a i n = absurd (n refl)
-  notable (off ∷ is) a zero n = absurd (n refl)
-  notable (some q ∷ is) a zero n = S.notable q a.0 n
-  notable (off ∷ is) a (suc i) n = notable is a.1 i n
-  notable (some q ∷ is) a (suc i) n = notable is a.1 i n
-
-  -- what a turn asks
-  asks : (s : Scan) (at left : ℕ) (four : List ℕ) → 0 < left → four ≡ map (place_label labels) (sides w h (at - 1)) → Going labels links table marks w h k visit s at left
-      → ((i : ℕ) → i < 4 → get_or four i 0 ≢ 0 → Notable table (length s.marks) (get_or four i 0)) × (s.nearest.count + 4 ≤ 4294967295)
-  asks s at left four l e G =
-      let R = step (w * h) links at left l G.readable in
-      let p : at - 1 < w * h = omega (arith, R.some, R.within) in
-      (λ i _. rw (e, G.kept) (notable (sides w h (at - 1)) (sides-fit w h (at - 1) p) i), omega (arith, G.few))
-
   -- what it gives, with its four labels and the colour of k
   gives : (s t : Scan) (at left : ℕ) → 0 < left → t ≡ noted_four (diff_at table k) k visit (map (place_label labels) (sides w h (at - 1))) s → Going labels links table marks w h k visit s at left
       → Going labels links table marks w h k visit t (get_or links (at - 1) 0) (left - 1)
@@ -77,9 +57,9 @@ overflow_sub-p c = (here (goal.at.overflow_sub-p c).In-loop).some
 pub look-found-requires : goal.look-found-requires
 look-found-requires c =
     let S = c.requires in
+    let G = c.loop.invariant in
     let at = here (goal.at.look-found-requires c).In-loop in
-    let a = asks _ _ _ _ _ _ _ _ c.args.input.now.given.small S _ _ _ _ (omega arith) refl c.loop.invariant in
-    record { pixel = (omega (arith, at.some, at.within), S.labelled); notable = a.0; count_bound = a.1 }
+    record { pixel = omega (arith, at.some, at.within); marked = λ q i n. rw G.kept (S.notable q i n).mark; count_bound = omega (arith, G.few) }
 
 pub bounds-links-p : goal.bounds-links-p
 bounds-links-p c = omega (arith, (here (goal.at.bounds-links-p c).In-loop).some, (here (goal.at.bounds-links-p c).In-loop).within, c.requires.linked)

@@ -20,5 +20,5 @@ pub record Going (labels links table marks : List ℕ) (w h k visit : ℕ) (s : 
   pub rest : labels_around w h labels k (walk (λ p. get_or links p 0) at left) found ≡ labels_around w h labels k (list_at links table k) []
 
 abbrev pub invariant-loop : goal.invariant-loop
-invariant-loop l = let b = l.b in
-    Going b.labels.now b.links.now b.table.now l.initial.marks l.input.w l.input.h l.k l.visit (record { marks = l.marks; nearest = l.found }) l.at (get_or b.table.now (slot_width * l.k + pixel_count_place) 0 - l.counter)
+invariant-loop l = let b = l.fn.b in
+    Going b.labels.now b.links.now b.table.now l.initial.marks l.fn.input.w l.fn.input.h l.k l.visit (record { marks = l.marks; nearest = l.found }) l.at (get_or b.table.now (slot_width * l.k + pixel_count_place) 0 - l.counter)

@@ -2,7 +2,7 @@ use Prim.Native.Nat.{◌+◌, ◌-◌, ◌≤◌, ◌<◌}
 use native.Mathlib.Omega.{arith}
 use lib.ListN.{length}
 use Rattle.rules.specs.Code.Bounds.{count_bound}
-use Rattle.runner.proofs.Labels.{next-step, stretch-in, relabels-one, relabels-stretch}
+use Rattle.runner.proofs.Labels.{next-step, stretch-in, relabels-one, relabels-stretch, part-filled}
 use Rattle.runner.proofs.labelling.relabel_stretch.Goals as goal
 use Rattle.runner.proofs.labelling.relabel_stretch.Goals.{After-shared_slice_known-1, After-stretch-n}
 
@@ -17,14 +17,19 @@ first c =
 last : (c : After-stretch-n) → (let a = c.args in a.rest.at - 1 + c.stretch-n.result < length a.labels.now)
 last c = stretch-in c.requires.can_relabel c.stretch-n.result c.stretch-n.ensures.0 c.stretch-n.ensures.1
 
-pub fill-requires : goal.fill-requires
-fill-requires c = (omega (arith, last (goal.at.fill-requires c).After-stretch-n, first (goal.at.fill-requires c).After-shared_slice_known-1), omega (arith, last (goal.at.fill-requires c).After-stretch-n, first (goal.at.fill-requires c).After-shared_slice_known-1, c.requires.can_relabel.small))
+pub slice_bounds-fill-end : goal.slice_bounds-fill-end
+slice_bounds-fill-end c = omega (arith, last (goal.at.slice_bounds-fill-end c).After-stretch-n, first (goal.at.slice_bounds-fill-end c).After-shared_slice_known-1)
 
 pub bounds-links-at-then-after-at : goal.bounds-links-at-then-after-at
 bounds-links-at-then-after-at c = omega (arith, last (goal.at.bounds-links-at-then-after-at c).After-stretch-n, c.requires.can_relabel.links)
 
 pub returns-then-after-at : goal.returns-then-after-at
-returns-then-after-at c = let z = c.stretch-n.ensures in (omega (arith, z.0), rw c.fill.ensures (relabels-stretch c.requires.can_relabel _ z.0 z.1 _))
+returns-then-after-at c =
+    let a = c.args in
+    let z = c.stretch-n.ensures in
+    let p = (first (goal.at.returns-then-after-at c).After-shared_slice_known-1).0 in
+    let l = last (goal.at.returns-then-after-at c).After-stretch-n in
+    (omega (arith, z.0), rw (part-filled a.labels.now _ (a.rest.at - 1) (a.rest.at + c.stretch-n.result) (c.stretch-n.result + 1) a.t (omega (arith, p)) (omega (arith, l)) (c.fill.ensures.after (λ y e. e))) (relabels-stretch c.requires.can_relabel _ z.0 z.1 _))
 
 pub returns : goal.returns
 returns c =

@@ -1,9 +1,12 @@
-use mathlib.Core.Path.{◌≡◌, ap, ap₂, ◌∙◌, subst, sym}
-use mathlib.Core.List.{List}
-use Prim.Native.Nat.{ℕ, suc, ◌+◌, ◌-◌, ◌*◌, ◌≤◌, ◌<◌}
+use mathlib.Core.Path.{◌≡◌, refl, ap, ap₂, ◌∙◌, subst, sym}
+use mathlib.Core.List.{List, []}
+use Prim.Native.Nat.{ℕ, zero, suc, ◌+◌, ◌*◌, ◌/◌, ◌≤◌, ◌<◌}
+use native.Mathlib.Numerals.{add-one}
 use native.Mathlib.Omega.{arith}
-use lib.ListN.{get_or}
-use Rattle.rules.specs.Color.{Color, ColorSum, sum_of_one, ◌⊕◌, pixel}
+use lib.ListN.{length, get_or, drop}
+use lib.Seq.{get_or-take, get_or-drop}
+use Rattle.std.specs.Simd.{first_chunks}
+use Rattle.rules.specs.Color.{Color, rgba, ColorSum, sum_of_one, ◌⊕◌, pixel}
 use Rattle.rules.specs.Code.Ranges.{Fits}
 use Rattle.rules.specs.Code.Spans.{sum_from}
 use Rattle.rules.proofs.Spans.{sum_fits}
@@ -27,20 +30,35 @@ one-fits image b i j l {v} {c} e f =
       count = omega (arith, F.count);
     }
 
-more : (image : List ℕ) (i j : ℕ) {v : ColorSum} {c : Color} → i ≤ j → v ≡ sum_from image i (j - i) → c ≡ pixel image j → v ⊕ sum_of_one c ≡ sum_from image i (j + 1 - i)
+more : (image : List ℕ) (j : ℕ) {v : ColorSum} {c : Color} → v ≡ sum_from image 0 j → c ≡ pixel image (0 + j) → v ⊕ sum_of_one c ≡ sum_from image 0 (j + 1)
 unfolding sum_from
-more image i j l e f =
-    let a : j + 1 - i ≡ suc (j - i) = omega arith in
-    let b : i + (j - i) ≡ j = omega arith in
-    rw (a, b) (ap₂ (λ a b. a ⊕ sum_of_one b) e f)
+more image j {v} {c} e f = subst (λ n. v ⊕ sum_of_one c ≡ sum_from image 0 n) (sym (add-one j)) (ap₂ (λ a b. a ⊕ sum_of_one b) e f)
 
-pub loop-j-init : goal.loop-j-init
+-- a byte of a chunk
+chunk-byte : (k j c : ℕ) (xs : List ℕ) → j < k → c < 4 → get_or (get_or (first_chunks 4 k xs) j []) c 0 ≡ get_or xs (4 * j + c) 0
+chunk-byte zero j c xs l d = absurd (omega arith)
+chunk-byte (suc k) zero c xs l d = let e : 4 * 0 + c ≡ c = omega arith in rw e (get_or-take 4 xs c 0 d)
+chunk-byte (suc k) (suc j) c xs l d =
+    let e : 4 + (4 * j + c) ≡ 4 * suc j + c = omega arith in
+    chunk-byte k j c (drop 4 xs) (omega arith) d ∙ get_or-drop 4 xs (4 * j + c) 0 ∙ ap (λ i. get_or xs i 0) e
+
+-- chunk j is pixel j
+chunk-pixel : (k j : ℕ) (xs : List ℕ) {chunks : List (List ℕ)} → chunks ≡ first_chunks 4 k xs → j < k → rgba (get_or (get_or chunks j []) 0 0) (get_or (get_or chunks j []) 1 0) (get_or (get_or chunks j []) 2 0) (get_or (get_or chunks j []) 3 0) ≡ pixel xs (0 + j)
+unfolding pixel
+chunk-pixel k j xs e l =
+    let z : 0 + j ≡ j = omega arith in
+    let a : 4 * j + 0 ≡ 4 * j = omega arith in
+    let r : get_or (get_or (first_chunks 4 k xs) j []) 0 0 ≡ get_or xs (4 * j) 0 = chunk-byte k j 0 xs l (omega arith) ∙ ap (λ i. get_or xs i 0) a in
+    rw (e, z, r, chunk-byte k j 1 xs l (omega arith), chunk-byte k j 2 xs l (omega arith), chunk-byte k j 3 xs l (omega arith)) refl
+
+pub loop-r-init : goal.loop-r-init
 unfolding sum_from
-loop-j-init c = let e : c.args.i - c.args.i ≡ 0 = omega arith in rw e (cc)
+loop-r-init c = cc
 
-pub loop-j-preserved : goal.loop-j-preserved
-loop-j-preserved c =
-    let l = c.loop-j in
-    let b : c.args.i + (l.j - c.args.i) ≡ l.j = omega arith in
-    let fits = one-fits c.args.image.now (λ p. omega (arith, c.type_inv.image p)) c.args.i (l.j - c.args.i) (omega (arith, c.requires)) l.invariant (rw b c.color_at.ensures) in
-    c.plus-s.ensures ∙ ap (sum_call (sum_of c.loop-j.s)) c.from.ensures ∙ adds-taken fits ∙ more _ _ _ l.auto.j l.invariant c.color_at.ensures
+pub loop-r-preserved : goal.loop-r-preserved
+loop-r-preserved c =
+    let l = c.loop-r in
+    let xs = c.args.bytes.now in
+    let p = chunk-pixel (length xs / 4) l.r-index xs c.as_chunks.ensures.front (omega (arith, c.as_chunks.ensures.front_len)) in
+    let fits = one-fits xs (λ p. omega (arith, c.type_inv.bytes p)) 0 l.r-index (omega (arith, c.requires)) l.invariant p in
+    c.plus-s.ensures ∙ ap (sum_call (sum_of l.s)) c.from.ensures ∙ adds-taken fits ∙ more _ _ l.invariant p

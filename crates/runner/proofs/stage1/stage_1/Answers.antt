@@ -23,7 +23,7 @@ taking G I l t₀ e r = record { given = G; spot = spot_of I.index I.column l; h
 -- the pixels taken are on the image
 inside : (c : After-take_pixels-t) → (let a = c.args in c.loop-at.at.i + c.take_pixels-t.result.pixels ≤ a.input.now.w * a.input.now.h)
 inside c =
-    omega (arith, c.take_pixels-t.ensures.pixels, row-end (taking c.args.input.now.given c.loop-at.invariant.going c.loop-at-test.true _ c.clear_slot.ensures c.requires.table))
+    omega (arith, c.take_pixels-t.ensures.pixels, row-end (spot_of c.loop-at.invariant.going.index c.loop-at.invariant.going.column c.loop-at-test.true))
 
 pub loop-at-init : goal.loop-at-init
 loop-at-init c =

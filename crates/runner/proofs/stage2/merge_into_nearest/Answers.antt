@@ -4,7 +4,7 @@ use Rattle.runner.proofs.stage2.merge_into_nearest.Goals as goal
 
 pub deepens-requires : goal.deepens-requires
 deepens-requires c = let v = c.requires.by_index.1 in
-    record { slot = own-fits c.args.input.now.given v; pixels = lengths-fit c.args.input.now.given v; list = deepens-reads c.args.input.now.given v c.requires.aimed; diff_bound = diff-told c.args.input.now.given v c.requires.aimed }
+    record { slot = own-fits c.args.input.now.given v; lengths = lengths-fit c.args.input.now.given v; list = deepens-reads c.args.input.now.given v c.requires.aimed; diff_bound = diff-told c.args.input.now.given v c.requires.aimed }
 
 pub deepen_into_nearest-requires : goal.deepen_into_nearest-requires
 deepen_into_nearest-requires c = let v = c.requires.by_index in
