@@ -71,6 +71,7 @@ pub(crate) fn add_span(b: &mut Builder, image: &[u8], k: u32, at: Pixel, n: u32)
 }
 
 // Whether pixel i, behind the first column and the first row, extends cluster k.
+#[tactic(auto, using(crate::proofs::Spots::color_there))]
 fn extends(input: &Input, labels: &[u32], i: u32, k: u32) -> bool
     requires { (input.now.w + 1 ≤ i) × (i < length labels.now) × (4 * i + 4 ≤ length input.now.image.now) }
     ensures { result ≡ true → Extends (config_of input.now.o) input.now.w input.now.image.now labels.now k i }

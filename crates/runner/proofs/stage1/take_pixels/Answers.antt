@@ -12,20 +12,11 @@ some c = omega (arith, c.if-n-eq0.false)
 pub span_length-n-requires-clause-row_rest : goal.span_length-n-requires-clause-row_rest
 span_length-n-requires-clause-row_rest c = row_of c.requires.taking.1
 
-pub returns-then-n-eq0-clause-pixels : goal.returns-then-n-eq0-clause-pixels
-returns-then-n-eq0-clause-pixels c = (omega arith, omega (arith, c.requires.taking.1.spot.column))
-
-pub returns-then-n-eq0-clause-holding : goal.returns-then-n-eq0-clause-holding
-returns-then-n-eq0-clause-holding c t₀ Q = rw add-one (c.take_pixel.ensures.holding t₀ Q)
-
 pub bounds-b-at : goal.bounds-b-at
 bounds-b-at c = omega (arith, (row_of c.requires.taking.1).labels, (row_of c.requires.taking.1).column)
 
 pub add_span-requires : goal.add_span-requires
 add_span-requires c = can-span c.requires.taking.1 c.span_length-n.ensures (some (goal.at.add_span-requires c).Else-n-eq0)
-
-pub returns-clause-pixels : goal.returns-clause-pixels
-returns-clause-pixels c = (some (goal.at.returns-clause-pixels c).Else-n-eq0, c.span_length-n.ensures.within)
 
 pub returns-clause-holding : goal.returns-clause-holding
 returns-clause-holding c t₀ Q = let z = some (goal.at.returns-clause-holding c).Else-n-eq0 in
