@@ -1,13 +1,10 @@
-use Rattle.std.proofs.Common.{◌≡◌, refl, ap₂, rules, eq-eqb, Err, Ok, Result, IfOk}
+use Rattle.std.proofs.Common.{◌≡◌, refl, ap₂, rules, eq-eqb, Err}
 use Rattle.std.proofs.Common.{ne_eqb}
-use Rattle.image.specs.declared.Counts.{Counts}
-use Rattle.refusal.specs.declared.Refusal.{Refusal}
 use Rattle.refusal.proofs.Laws.{refused-number}
-use Rattle.rules.specs.Calls.{Buffers, Ran, answered, with_picture, run_number, run_and_paint_number, run_and_paint_call}
-use Rattle.rules.specs.Demand3.{Demand3Left}
+use Rattle.rules.specs.Calls.{answered, with_picture, run_number, run_and_paint_number, run_and_paint_call}
 use Rattle.rules.proofs.Accepted.{run-and-paint-number}
 use Rattle.rules.proofs.Left.{run-and-paint-left}
-use Rattle.runner.specs.Types.{config_of, buffers_of, ran_of}
+use Rattle.runner.specs.Types.{config_of, buffers_of}
 use Rattle.color_clusters.proofs.run_and_paint.Goals as goal
 use Rattle.color_clusters.proofs.run_and_paint.Goals.{Else-picture-pixels, After-run_then_paint}
 
