@@ -26,31 +26,39 @@ LINES = {
 }
 
 
+def closing(text, begin, opened, closed):
+    """Where the bracket is closed that is open before begin."""
+    depth, i = 1, begin
+    while depth:
+        depth += {opened: 1, closed: -1}.get(text[i], 0)
+        i += 1
+    return i - 1
+
+
+def parts(text):
+    """What commas outside brackets divide."""
+    found, depth, last = [], 0, 0
+    for j, sign in enumerate(text):
+        depth += {"(": 1, "[": 1, "<": 1, ")": -1, "]": -1, ">": -1}.get(sign, 0)
+        if sign == "," and depth == 0:
+            found.append(text[last:j].strip())
+            last = j + 1
+    found.append(text[last:].strip())
+    return [part for part in found if part]
+
+
 def functions(text):
-    """Name and parameters of each function."""
+    """Name and parameters of each function, and its line."""
     for m in re.finditer(r"\bfn (\w+)(<[^>]*>)?\(", text):
-        depth, i = 1, m.end()
-        while depth:
-            depth += {"(": 1, ")": -1}.get(text[i], 0)
-            i += 1
-        parts, depth, last = [], 0, m.end()
-        for j in range(m.end(), i - 1):
-            depth += {"(": 1, "[": 1, "<": 1, ")": -1, "]": -1, ">": -1}.get(text[j], 0)
-            if text[j] == "," and depth == 0:
-                parts.append(text[last:j].strip())
-                last = j + 1
-        parts.append(text[last:i - 1].strip())
-        yield m.group(1), [p for p in parts if p], text.count("\n", 0, m.start()) + 1
+        end = closing(text, m.end(), "(", ")")
+        yield m.group(1), parts(text[m.end():end]), text.count("\n", 0, m.start()) + 1
 
 
 def facts(text):
     """The facts of the clauses, as they stand: the factors of each requires and ensures."""
     for m in re.finditer(r"(?:requires|ensures) ?\w* ?\{", text):
-        depth, i = 1, m.end()
-        while depth:
-            depth += {"{": 1, "}": -1}.get(text[i], 0)
-            i += 1
-        for fact in re.split(r"\s×\s", " ".join(text[m.end():i - 1].split())):
+        end = closing(text, m.end(), "{", "}")
+        for fact in re.split(r"\s×\s", " ".join(text[m.end():end].split())):
             yield fact.strip("() ")
 
 

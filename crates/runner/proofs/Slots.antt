@@ -13,8 +13,8 @@ use Rattle.runner.specs.Types.{rect_of}
 use Rattle.runner.specs.Code.Slots.{Adds, head_of}
 
 -- a head is a cluster's by its four parts
-pub head-is : {h : Head} (k : Cluster) → h.first ≡ first_of k.pixels → h.count ≡ length k.pixels → rect_of h.rect ≡ k.rect → sum_of h.sum ≡ k.sum → h ≡ head_of k
-head-is k f n e s = λ i. record {
+pub head_is : {h : Head} (k : Cluster) → h.first ≡ first_of k.pixels → h.count ≡ length k.pixels → rect_of h.rect ≡ k.rect → sum_of h.sum ≡ k.sum → h ≡ head_of k
+head_is k f n e s = λ i. record {
   first = f i;
   count = n i;
   rect = record { left = (e i).left; top = (e i).top; right = (e i).right; bottom = (e i).bottom };

@@ -58,9 +58,9 @@ module _ {o : RunnerConfig} {w h : ℕ} {image : List ℕ} {shift i x y : ℕ} (
   near-row = omega (arith, S.row, le-mul_of_pos_right h G.columns, mul_comm w h, G.small)
 
 -- a colour of the image, as the rules read it
-pub color-there : (image : List ℕ) (i : ℕ) {c : Color} → c ≡ pixel image i → some c ≡ color_at image (some i)
+pub color_there : (image : List ℕ) (i : ℕ) {c : Color} → c ≡ pixel image i → some c ≡ color_at image (some i)
 unfolding color_at
-color-there image i e = ap some e
+color_there image i e = ap some e
 
 -- ---- the places beside pixel i, by its column and row
 
@@ -152,3 +152,12 @@ module _ {w h i x y : ℕ} (image : List ℕ) (S : Spot w h i x y) (whole : leng
 
   pub up_left-pixel : 0 < y → color_at image (left w (i - w)) ≡ color_at image (up_left w i)
   up_left-pixel l = ap (color_at image) (sym (up_left-some w i (later l)))
+
+-- what names the pixels and the places to the left of a pixel and above it
+pub ruleset left_pixels = (no-left, left-pixel)
+
+pub ruleset up_pixels = (no-up, up-pixel, up_none)
+
+pub ruleset left_places = (left-none, left-some)
+
+pub ruleset up_places = (first-row-in, later-row, up-some, up_none)

@@ -77,17 +77,17 @@ module _ {o : RunnerConfig} {w h : ℕ} {image : List ℕ} {shift i x y l u : �
 
   -- ---- what is read of a slot
 
-  head-is : (k : ℕ) → k < s.next_index → head_at B k ≡ head_of (cluster s k)
-  head-is k z = head-at s P.holding.rep.tabled k (in_table k z)
+  head_is : (k : ℕ) → k < s.next_index → head_at B k ≡ head_of (cluster s k)
+  head_is k z = head-at s P.holding.rep.tabled k (in_table k z)
 
   count-is : (k : ℕ) → k < s.next_index → (head_at B k).count ≡ area (cluster s k)
-  count-is k z = ap (λ d. d.count) (head-is k z)
+  count-is k z = ap (λ d. d.count) (head_is k z)
 
   pub count_of : (k : ℕ) → k < s.next_index → get_or B (slot_width * k + pixel_count_place) 0 ≡ area (cluster s k)
   count_of k z = count_at s P.holding.rep.tabled k (in_table k z)
 
   total : (k : ℕ) → k < s.next_index → Fits (w * h) (sum_of (head_at B k).sum)
-  total k z = subst (λ d. Fits (w * h) (sum_of d.sum)) (sym (head-is k z)) (sum_fits image P.given.bytes P.early.basic k)
+  total k z = subst (λ d. Fits (w * h) (sum_of d.sum)) (sym (head_is k z)) (sum_fits image P.given.bytes P.early.basic k)
 
   opens : (k : ℕ) → k < s.next_index → Open k K B E
   opens k z = record {
@@ -121,7 +121,7 @@ module _ {o : RunnerConfig} {w h : ℕ} {image : List ℕ} {shift i x y l u : �
 
     pub rep-added : {L' K' B' E' : List ℕ} (k : ℕ) → k < s.next_index → Added k i x y c L K B E L' K' B' E' → Rep (w * h) (add_pixel i (pixel image i) (pixel_rect x y) k s) t₀ L' K' B' E'
     rep-added k z A = rep-is A.labels (A.links ∙ ap (λ d. link_after K d (get_or E k 0) (i + 1)) (count-is k z))
-        (A.table (cluster s k) (head-is k z) ∙ ap (λ d. saved_head B k (head_of (with_pixel i d (pixel_rect x y) (cluster s k)))) e) A.ends
+        (A.table (cluster s k) (head_is k z) ∙ ap (λ d. saved_head B k (head_of (with_pixel i d (pixel_rect x y) (cluster s k)))) e) A.ends
         (rep_add P.early P.holding.rep fits (pixel image i) (pixel_rect x y) k z (omega (arith, some_left, P.room)))
 
     new : head_at (cleared_slot B s.next_index) s.next_index ≡ head_of new_cluster
@@ -162,7 +162,7 @@ module _ {o : RunnerConfig} {w h : ℕ} {image : List ℕ} {shift i x y l u : �
       list = record {
         links = omega (arith, labels-long P.early P.holding.rep, links-long P.early P.holding.rep);
         small = omega (arith, labels-long P.early P.holding.rep, P.given.small);
-        list = subst T (sym (ap (λ z. reads (length L) K z.first z.count) (head-is f hf) ∙ ap (λ z. reads z K (first_of (cluster s f).pixels) (area (cluster s f))) (labels-long P.early P.holding.rep)))
+        list = subst T (sym (ap (λ z. reads (length L) K z.first z.count) (head_is f hf) ∙ ap (λ z. reads z K (first_of (cluster s f).pixels) (area (cluster s f))) (labels-long P.early P.holding.rep)))
             (list-reads P.early P.holding.rep f);
       };
       sum =
@@ -179,7 +179,7 @@ module _ {o : RunnerConfig} {w h : ℕ} {image : List ℕ} {shift i x y l u : �
     }
 
     pub rep-combined : {L' K' B' E' : List ℕ} → Combined f t L K B E L' K' B' E' → Rep (w * h) (combine_clusters f t s) t₀ L' K' B' E'
-    rep-combined C = rep-is (C.labels ∙ ap (λ ps. relabel t ps L) (ap (λ z. walk (λ p. get_or K p 0) z.first z.count) (head-is f hf) ∙ list-walk P.early P.holding.rep f))
-        (C.links ∙ ap (λ z. link_after K z (get_or E t 0) (head_at B f).first) (count-is t ht) ∙ ap (λ z. link_after K (area (cluster s t)) (get_or E t 0) z.first) (head-is f hf))
-        (C.table (cluster s t) (cluster s f) (head-is t ht) (head-is f hf)) (C.ends ∙ ap (λ z. if eqb z 0 then E else set E t (get_or E f 0)) (count-is f hf))
+    rep-combined C = rep-is (C.labels ∙ ap (λ ps. relabel t ps L) (ap (λ z. walk (λ p. get_or K p 0) z.first z.count) (head_is f hf) ∙ list-walk P.early P.holding.rep f))
+        (C.links ∙ ap (λ z. link_after K z (get_or E t 0) (head_at B f).first) (count-is t ht) ∙ ap (λ z. link_after K (area (cluster s t)) (get_or E t 0) z.first) (head_is f hf))
+        (C.table (cluster s t) (cluster s f) (head_is t ht) (head_is f hf)) (C.ends ∙ ap (λ z. if eqb z 0 then E else set E t (get_or E f 0)) (count-is f hf))
         (rep-combine P.early P.holding.rep fits f t d hf ht (omega (arith, some_left, P.room)))

@@ -17,6 +17,7 @@ use image::layout;
 
 // Links the list that ends at pixel tail - 1 to the pixel first - 1, where neither that list nor the one that follows
 // is empty.
+#[tactic(auto, unfolding(crate::specs::Code::Rep::link_after))]
 pub(crate) fn link_after(links: &mut [u32], count: u32, tail: u32, first: u32)
     requires { 0 < count → (0 < tail) × (tail ≤ length links.old) }
     ensures { links.new ≡ link_after links.old count tail first }
@@ -92,6 +93,7 @@ impl<'a> Builder<'a> {
 
     // The list, sum and rectangle of f are added to t's, and its pixels are relabelled: first, so that nothing but the
     // list is held meanwhile.
+    #[tactic(auto, unfolding(crate::specs::Code::Slots::head_at))]
     fn combine_clusters_clone(&mut self, f: u32, t: u32)
         requires { of_lists (CanAppend f t) self.old }
         ensures loans { SameLists self.old self.new }

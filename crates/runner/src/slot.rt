@@ -30,6 +30,7 @@ pub(crate) fn count_of(table: &[u32], k: u32) -> u32
 }
 
 // The head of slot k.
+#[tactic(auto, unfolding(crate::specs::Code::Slots::head_at))]
 pub(crate) fn load_head(table: &[u32], k: u32) -> Head
     requires { InTable k table.now }
     ensures { result ≡ head_at table.now k }
@@ -54,6 +55,7 @@ pub(crate) fn load_head(table: &[u32], k: u32) -> Head
     }
 }
 
+#[tactic(auto, unfolding(crate::specs::Code::Slots::saved_head))]
 pub(crate) fn save_head(table: &mut [u32], k: u32, s: Head)
     requires { InTable k table.old }
     ensures { table.new ≡ saved_head table.old k s }
@@ -73,6 +75,7 @@ pub(crate) fn save_head(table: &mut [u32], k: u32, s: Head)
 }
 
 // The residue of slot k.
+#[tactic(auto, unfolding(crate::specs::Code::Slots::residue_at, rules::specs::Paint::five_from, rules::specs::Paint::slot_number))]
 pub(crate) fn load_residue(table: &[u32], k: u32) -> ColorSum
     requires { InTable k table.now }
     ensures { result ≡ residue_at table.now k }
@@ -80,6 +83,7 @@ pub(crate) fn load_residue(table: &[u32], k: u32) -> ColorSum
     color::sum_in(table, layout::SLOT_WIDTH * (k as usize) + layout::RESIDUE_R)
 }
 
+#[tactic(auto, unfolding(crate::specs::Code::Slots::saved_residue))]
 pub(crate) fn save_residue(table: &mut [u32], k: u32, s: ColorSum)
     requires { InTable k table.old }
     ensures { table.new ≡ saved_residue table.old k s }
@@ -102,6 +106,7 @@ pub(crate) fn clear_slot(table: &mut [u32], k: u32)
 }
 
 // The first pixel, plus one, of two lists one after the other: of count pixels from first, and from second.
+#[tactic(auto, unfolding(rules::specs::Layout::first_of))]
 fn first_of(count: u32, first: u32, second: u32) -> u32
     ensures { (ps qs : List ℕ) → count ≡ length ps → first ≡ first_of ps → second ≡ first_of qs → result
         ≡ first_of (ps ++ qs) }
@@ -111,6 +116,7 @@ fn first_of(count: u32, first: u32, second: u32) -> u32
 
 impl Head {
     // With nothing in it, as that of a new cluster.
+    #[tactic(auto, unfolding(rules::specs::Layout::first_of), using(crate::proofs::Slots::head_is))]
     pub(crate) fn cleared(self) -> Head
         ensures { result ≡ head_of new_cluster }
     {

@@ -144,6 +144,7 @@ struct Reach<'a> {
 
 impl<'a> Reach<'a> {
     // Whether pixel i, behind the first column and the first row, extends the cluster.
+    #[tactic(auto, using(crate::proofs::Spots::color_there))]
     fn extends(self, i: u32) -> bool
         requires { (self.input.now.w + 1 ≤ i) × (i < self.input.now.w * self.input.now.h) }
         ensures { let s = self.entry in let p = s.input.now in

@@ -66,6 +66,7 @@ struct Target {
 }
 
 // The pixel to the left; none at the border.
+#[tactic(auto, using(crate::proofs::Spots::left_pixels))]
 fn left_of(input: &Input, at: Pixel) -> Option<Color>
     requires { Spot input.now.w input.now.h at.i at.x at.y }
     ensures { option_of result ≡ rules.color_at input.now.image.now (grid.left input.now.w at.i) }
@@ -77,6 +78,7 @@ fn left_of(input: &Input, at: Pixel) -> Option<Color>
 }
 
 // The pixel above.
+#[tactic(auto, unfolding(rules::specs::Stage1::color_at), using(crate::proofs::Spots::up_pixels))]
 fn up_of(input: &Input, at: Pixel) -> Option<Color>
     requires { Spot input.now.w input.now.h at.i at.x at.y }
     ensures { option_of result ≡ rules.color_at input.now.image.now (grid.up input.now.w at.i) }
@@ -120,6 +122,7 @@ fn seen_from(input: &Input, at: Pixel) -> Seen
 }
 
 // Whether two pixels are like under the settings.
+#[tactic(auto, unfolding(rules::specs::Stage1::same_at))]
 pub(crate) fn is_same(input: &Input, a: Option<Color>, b: Option<Color>) -> bool
     ensures { (p q : Option ℕ) → option_of a ≡ rules.color_at input.now.image.now p
         → option_of b ≡ rules.color_at input.now.image.now q
@@ -129,6 +132,7 @@ pub(crate) fn is_same(input: &Input, a: Option<Color>, b: Option<Color>) -> bool
 }
 
 // Step 1, the condition, with l and u for the labels of left and up.
+#[tactic(auto, using(crate::proofs::Spots::color_there))]
 fn left_meets_up(input: &Input, l: u32, u: u32, p: Seen) -> bool
     ensures { (i : ℕ) → SeenAt input.now.w input.now.image.now i p
         → result ≡ meets (config_of input.now.o) input.now.w input.now.image.now i l u }
@@ -146,6 +150,7 @@ fn left_meets_up(input: &Input, l: u32, u: u32, p: Seen) -> bool
 }
 
 // Steps 3 to 5: which cluster the pixel joins.
+#[tactic(auto, using(crate::proofs::Spots::color_there))]
 fn joins(input: &Input, p: Seen) -> Into
     ensures { (i : ℕ) → SeenAt input.now.w input.now.image.now i p
         → result ≡ joined (config_of input.now.o) input.now.w input.now.image.now i }
@@ -287,6 +292,7 @@ fn combine_sides(b: &mut Builder, l: u32, u: u32, s: Slots) -> Sides
 }
 
 // The label of the pixel above and of the one to the left, 0 off the image.
+#[tactic(auto, unfolding(rules::specs::Stage1::label_at), using(crate::proofs::Spots::up_places))]
 fn up_label(b: &Builder, w: u32, at: Pixel) -> u32
     requires { (0 < w) × (at.y ≡ at.i / w) × (at.i < length b.now.labels.now) }
     ensures { (st : State) → b.now.labels.now ≡ st.labels → result ≡ rules.label_at st (grid.up w at.i) }
@@ -297,6 +303,7 @@ fn up_label(b: &Builder, w: u32, at: Pixel) -> u32
     b.labels[(at.i - w) as usize]
 }
 
+#[tactic(auto, unfolding(rules::specs::Stage1::label_at), using(crate::proofs::Spots::left_places))]
 fn left_label(b: &Builder, at: Pixel) -> u32
     requires i_in_bounds { at.i < length b.now.labels.now }
     requires x_le_i { at.x ≤ at.i }

@@ -1,13 +1,10 @@
-use Rattle.std.proofs.Common.{◌≡◌, refl, ap₂, rules, eq-eqb, Err, Ok, Result, IfOk}
+use Rattle.std.proofs.Common.{◌≡◌, refl, ap₂, rules, eq-eqb, Err}
 use Rattle.std.proofs.Common.{ne_eqb}
-use Rattle.image.specs.declared.Counts.{Counts}
-use Rattle.refusal.specs.declared.Refusal.{Refusal}
 use Rattle.refusal.proofs.Laws.{refused-number}
-use Rattle.rules.specs.Calls.{Buffers, Ran, answered, with_picture, run_number, run_and_paint_number, run_and_paint_call}
-use Rattle.rules.specs.Demand3.{Demand3Left}
+use Rattle.rules.specs.Calls.{answered, with_picture, run_number, run_and_paint_number, run_and_paint_call}
 use Rattle.rules.proofs.Accepted.{run-and-paint-number}
 use Rattle.rules.proofs.Left.{run-and-paint-left}
-use Rattle.runner.specs.Types.{config_of, buffers_of, ran_of}
+use Rattle.runner.specs.Types.{config_of, buffers_of}
 use Rattle.color_clusters.proofs.run_and_paint.Goals as goal
 use Rattle.color_clusters.proofs.run_and_paint.Goals.{Else-picture-pixels, After-run_then_paint}
 
@@ -18,14 +15,9 @@ passed c = rw (run-and-paint-number, ← c.in_ok-pixels.ensures.answer, ← c.in
 
 -- what is left
 called : (c : After-run_then_paint) → run_and_paint_number (config_of c.args.o) c.args.size.w c.args.size.h c.args.image.now (buffers_of c.args.buffers.now) c.args.picture.now ≡ 0
-    → with_picture (ran_of c.run_then_paint.result (buffers_of c.run_then_paint.new.buffers)) c.run_then_paint.new.picture ≡ run_and_paint_call (config_of c.args.o) c.args.size.w c.args.size.h c.args.image.now (buffers_of c.args.buffers.now) c.args.picture.now
+    → with_picture (answered 0 c.run_then_paint.result.n c.run_then_paint.result.m (buffers_of c.run_then_paint.new.buffers)) c.run_then_paint.new.picture ≡ run_and_paint_call (config_of c.args.o) c.args.size.w c.args.size.h c.args.image.now (buffers_of c.args.buffers.now) c.args.picture.now
 unfolding run_and_paint_call
 called c e = rw e (ap₂ with_picture c.run_then_paint.ensures.run c.run_then_paint.ensures.picture)
-
--- demand 3 of what an accepted call leaves
-if-ok : (D : Ran → Type 0) (r : Result Counts Refusal) (b : Buffers) → ((ran_of r b).number ≡ 0 → D (ran_of r b)) → IfOk r (λ counts. D (answered 0 counts.n counts.m b))
-if-ok D (Ok counts) b h = h refl
-if-ok D (Err e) b h = tt
 
 pub returns-in_err-pixels-clause-call : goal.returns-in_err-pixels-clause-call
 unfolding run_number run_and_paint_number run_and_paint_call
@@ -45,9 +37,5 @@ pub returns-clause-call : goal.returns-clause-call
 returns-clause-call c = let p = goal.at.returns-clause-call c in called p.After-run_then_paint (passed p.Else-picture-pixels)
 
 pub returns-clause-demand3 : goal.returns-clause-demand3
-returns-clause-demand3 c =
-    let p = goal.at.returns-clause-demand3 c in
-    let a = c.args in
-    if-ok (λ r. Demand3Left (config_of a.o) a.size.w a.size.h a.image.now r.n r.buffers.labels r.buffers.links r.buffers.table c.run_then_paint.new.picture)
-    c.run_then_paint.result (buffers_of c.run_then_paint.new.buffers)
-    (run-and-paint-left _ _ _ _ _ _ _ (called p.After-run_then_paint (passed p.Else-picture-pixels))).1
+returns-clause-demand3 c = let p = goal.at.returns-clause-demand3 c in
+    (run-and-paint-left _ _ _ _ _ _ _ (called p.After-run_then_paint (passed p.Else-picture-pixels))).1 refl

@@ -17,7 +17,7 @@ use Rattle.runner.specs.Types.{rect_of}
 use Rattle.runner.specs.Code.Slots.{Adds, head_at, head_of, saved_head}
 use Rattle.runner.specs.Code.Rep.{link_after}
 use Rattle.runner.specs.Code.Spans.{linked_from, CanAddSpan, AddedSpan}
-use Rattle.runner.proofs.Slots.{head-is}
+use Rattle.runner.proofs.Slots.{head_is}
 use Rattle.runner.proofs.Labels.{part-filled}
 use Rattle.runner.proofs.spans.add_span.Goals as goal
 
@@ -50,7 +50,7 @@ module _ (image : List ℕ) (i n : ℕ) (l : 4 * (i + n) ≤ length image) where
 span_head : (image : List ℕ) (i x y n : ℕ) (h : Head) → 0 < n → h.first ≡ i + 1 → h.count ≡ n → rect_of h.rect ≡ span_rect x y n → sum_of h.sum ≡ sum_from image i n → h ≡ head_of (span_of image i x y n)
 unfolding span_of
 span_head image i x y zero h l a b d e = absurd (omega arith)
-span_head image i x y (suc n) h l a b d e = head-is (span_of image i x y (suc n)) (a ∙ sym (first-up_from i n)) (b ∙ sym (length-up_from i (suc n))) d e
+span_head image i x y (suc n) h l a b d e = head_is (span_of image i x y (suc n)) (a ∙ sym (first-up_from i n)) (b ∙ sym (length-up_from i (suc n))) d e
 
 -- with the head that is loaded
 module _ {image : List ℕ} {k i x y n : ℕ} {L K B E : List ℕ} {s : Head} (loaded : s ≡ head_at B k) (p : CanAddSpan image k i x y n L K B E) where

@@ -6,14 +6,14 @@ use Rattle.rules.specs.State.{merge_rect, with_cluster}
 use Rattle.color.specs.Colors.{sum_of}
 use Rattle.runner.specs.declared.slot.Head.{Head}
 use Rattle.runner.specs.Types.{rect_of}
-use Rattle.runner.proofs.Slots.{head-is, adds-taken}
+use Rattle.runner.proofs.Slots.{head_is, adds-taken}
 use Rattle.runner.proofs.slot.Head.with_cluster.Goals as goal
 
 pub returns : goal.returns
 unfolding with_cluster
 returns c = λ t f e d.
     let o = c.args.other in
-    head-is (with_cluster f t)
+    head_is (with_cluster f t)
     (c.first_of.ensures t.pixels f.pixels (ap (λ (h : Head). h.count) e) (ap (λ (h : Head). h.first) e) (ap (λ (h : Head). h.first) d))
     (ap (λ (h : Head). h.count + o.count) e ∙ ap (λ (h : Head). length t.pixels + h.count) d ∙ sym (length-append t.pixels f.pixels))
     (c.merge.ensures

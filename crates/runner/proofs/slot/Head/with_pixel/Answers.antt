@@ -10,7 +10,7 @@ use Rattle.rules.specs.Calls.{sum_call}
 use Rattle.color.specs.Colors.{color_of, sum_of}
 use Rattle.runner.specs.declared.slot.Head.{Head}
 use Rattle.runner.specs.Types.{rect_of}
-use Rattle.runner.proofs.Slots.{head-is, adds-taken}
+use Rattle.runner.proofs.Slots.{head_is, adds-taken}
 use Rattle.runner.proofs.slot.Head.with_pixel.Goals as goal
 
 pub returns : goal.returns
@@ -18,7 +18,7 @@ unfolding with_pixel first_of
 returns c = λ k e.
     let a = c.args in
     let at = pixel_rect a.x a.y in
-    head-is (with_pixel a.i (color_of a.c) at k)
+    head_is (with_pixel a.i (color_of a.c) at k)
     (c.first_of.ensures k.pixels (a.i ∷ []) (ap (λ (h : Head). h.count) e) (ap (λ (h : Head). h.first) e) (add-one a.i))
     (ap (λ (h : Head). h.count + 1) e ∙ sym (length-append k.pixels (a.i ∷ [])))
     (c.add_x_y.ensures ∙ ap (λ (h : Head). merge_rect (rect_of h.rect) at) e)
