@@ -13,13 +13,7 @@ pub(crate) fn color_at(image: &[u8], i: u32) -> Color
     requires { 4 * i + 4 ≤ length image.now }
     ensures { color_of result ≡ pixel image.now i }
 {
-    let b = 4 * (i as usize);
-    Color {
-        r: image[b],
-        g: image[b + 1],
-        b: image[b + 2],
-        a: image[b + 3],
-    }
+    color::nth_pixel(image, i as usize).unwrap()
 }
 
 // Whether keying is on: the key is not (0,0,0,0).
