@@ -9,11 +9,13 @@ use crate::{KeyingAction, RunnerConfig};
 use color::Color;
 
 // The colour of pixel i.
+#[tactic(auto, using(color::proofs::Chunks::pixel_chunk))]
 pub(crate) fn color_at(image: &[u8], i: u32) -> Color
     requires { 4 * i + 4 ≤ length image.now }
     ensures { color_of result ≡ pixel image.now i }
 {
-    color::nth_pixel(image, i as usize).unwrap()
+    let (pixels, _) = image.as_chunks::<4>();
+    Color::from(pixels[i as usize])
 }
 
 // Whether keying is on: the key is not (0,0,0,0).

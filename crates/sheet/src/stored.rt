@@ -25,66 +25,55 @@ fn has_large(numbers: &[u32]) -> bool
         .fold(false, |large, number| large | (LARGEST < *number))
 }
 
-// The number at a place of slot k.
-fn slot_number(table: &[u32], k: usize, place: usize) -> u32
-    requires slot { InTable k table.now }
-    requires place { place < slot_width }
-    ensures { result ≡ slot_number table.now k place }
-{
-    table[layout::SLOT_WIDTH * k + place]
-}
-
 // Whether a first pixel or a count of the first n slots takes more than two bytes.
 fn has_large_slot(table: &[u32], n: usize) -> bool
     requires { slot_width * n ≤ length table.now }
     ensures { result ≡ is_large (slot_numbers table.now n) }
 {
-    (0..n).any(|k| {
-        (LARGEST < slot_number(table, k, layout::FIRST_PIXEL))
-            | (LARGEST < slot_number(table, k, layout::PIXEL_COUNT))
+    let (slots, _) = table.as_chunks::<{ layout::SLOT_WIDTH }>();
+    slots[..n].iter().any(|slot| {
+        (LARGEST < slot[layout::FIRST_PIXEL]) | (LARGEST < slot[layout::PIXEL_COUNT])
     })
 }
 
-// Writes x in two bytes, low byte first.
-fn put(destination: &mut [u8], at: usize, x: u32)
-    requires room { at + 2 ≤ length destination.old }
+// Writes x as number i, in two bytes, low byte first.
+fn put(destination: &mut [u8], i: usize, x: u32)
+    requires room { 2 * i + 2 ≤ length destination.old }
     requires small { x ≤ 65535 }
-    ensures { destination.new ≡ sets destination.old at (two_bytes x) }
+    ensures { destination.new ≡ sets destination.old (2 * i) (two_bytes x) }
 {
-    destination[at..at + 2].copy_from_slice(&(x as u16).to_le_bytes());
+    destination[2 * i..2 * i + 2].copy_from_slice(&(x as u16).to_le_bytes());
 }
 
-// Writes the numbers one after another, from a place on.
-fn put_all(destination: &mut [u8], from: usize, numbers: &[u32])
-    requires room { from + 2 * length numbers.now ≤ length destination.old }
+// Writes the numbers, which fill the destination.
+fn put_all(destination: &mut [u8], numbers: &[u32])
+    requires exact { length destination.old ≡ 2 * length numbers.now }
     requires small { is_large numbers.now ≡ false }
-    ensures { destination.new ≡ sets destination.old from (stored_bytes numbers.now) }
+    ensures { destination.new ≡ stored_bytes numbers.now }
 {
     for (i, number) in numbers.iter().enumerate() {
-        put(destination, from + 2 * i, *number);
+        put(destination, i, *number);
     }
 }
 
-// Writes two numbers for each of 0 .. count - 1 one after another, from a place on.
+// Writes two numbers for each of 0 .. count - 1, which fill the destination.
 fn put_pairs<F: Fn(usize) -> u32, G: Fn(usize) -> u32>(
     destination: &mut [u8],
-    from: usize,
     count: usize,
     first: F,
     second: G,
 )
-    requires room { from + 4 * count ≤ length destination.old }
+    requires exact { length destination.old ≡ 4 * count }
     requires first { (i : ℕ) → i < count → F.pre first i × ((x : ℕ) → F.post first i x → x ≤ 65535) }
     requires second { (i : ℕ) → i < count → G.pre second i × ((x : ℕ) → G.post second i x → x ≤ 65535) }
     ensures { (f g : ℕ → ℕ)
         → ((i x : ℕ) → i < count → F.post first i x → x ≡ f i)
         → ((i x : ℕ) → i < count → G.post second i x → x ≡ g i)
-        → destination.new ≡ sets destination.old from (stored_bytes (pairs f g count)) }
+        → destination.new ≡ stored_bytes (pairs f g count) }
 {
     for i in 0..count {
-        let at = from + 4 * i;
-        put(destination, at, first(i));
-        put(destination, at + 2, second(i));
+        put(destination, 2 * i, first(i));
+        put(destination, 2 * i + 1, second(i));
     }
 }
 
@@ -173,15 +162,17 @@ pub(crate) fn write(clusters: Clusters, labels: &[u32], destination: &mut [u8])
     } = clusters;
     let pixels = (size.w * size.h) as usize;
     let n = counts.n as usize;
-    let to_slots = 8 + 4 * pixels;
-    put_all(destination, 0, &[size.w, size.h, counts.n, counts.m]);
-    put_pairs(destination, 8, pixels, |p| labels[p], |p| links[p]);
+    let (slots, _) = table.as_chunks::<{ layout::SLOT_WIDTH }>();
+    let (of_sheet, rest) = destination.split_at_mut(8);
+    let (of_pixels, rest) = rest.split_at_mut(4 * pixels);
+    let (of_slots, of_outputs) = rest.split_at_mut(4 * n);
+    put_all(of_sheet, &[size.w, size.h, counts.n, counts.m]);
+    put_pairs(of_pixels, pixels, |p| labels[p], |p| links[p]);
     put_pairs(
-        destination,
-        to_slots,
+        of_slots,
         n,
-        |k| slot_number(table, k, layout::FIRST_PIXEL),
-        |k| slot_number(table, k, layout::PIXEL_COUNT),
+        |k| slots[k][layout::FIRST_PIXEL],
+        |k| slots[k][layout::PIXEL_COUNT],
     );
-    put_all(destination, to_slots + 4 * n, &outputs[..counts.m as usize]);
+    put_all(of_outputs, &outputs[..counts.m as usize]);
 }
