@@ -11,12 +11,15 @@ use borrow.Author.Tests.{leb-true, leb-false, lt-ltb, le-ltb, ltb-false}
 use lib.Dec.{leb, ltb}
 use lib.ListN.{length, get_or, set, take, length-append, length-take, drop_of_length-le}
 use lib.Seq.{sets, sets-eq, append_snoc, take-suc}
-use Rattle.std.specs.List.{fold, list_any, range_with_len}
+use Rattle.std.specs.List.{fold}
 use Rattle.sheet.specs.Code.Pairs.{pairs}
 use Rattle.rules.specs.Base.{up_to, none_above}
 use Rattle.rules.specs.Layout.{first_pixel_place, pixel_count_place}
 use Rattle.rules.specs.Paint.{slot_number}
 use Rattle.rules.specs.Stored.{is_large, two_bytes, stored_bytes, pixel_numbers, slot_numbers, stored_numbers}
+use Rattle.std.proofs.lemmas.List.{take_all}
+use Rattle.refusal.proofs.Laws.{refused-number}
+use Rattle.sheet.proofs.Accepted.{buffers-accepted}
 use Rattle.rules.proofs.Accepted.{neither}
 use Rattle.rules.proofs.Layouts.{flatten-snoc, spread}
 
@@ -80,10 +83,6 @@ fold-large b (x ∷ xs) = fold-large (b || ltb 65535 x) xs ∙ or_assoc b (ltb 6
 
 -- ---- two numbers for each of 0 .. n - 1, as of pixels and of slots
 
-any-more : (p : ℕ → Bool) (a n : ℕ) → list_any p (range_with_len a (suc n)) ≡ list_any p (range_with_len a n) || p (a + n)
-any-more p a zero = rw (add-zero) (or-false (p a))
-any-more p a (suc n) = ap (λ b. p a || b) (any-more p (a + 1) n) ∙ sym (or_assoc (p a) _ _) ∙ ap (λ m. p a || list_any p (range_with_len (a + 1) n) || p m) (omega arith)
-
 module _ (f g : ℕ → ℕ) where
   pub pairs-length : (n : ℕ) → length (pairs f g n) ≡ 2 * n
   pairs-length = spread _ 2 (λ i. refl)
@@ -97,16 +96,7 @@ module _ (f g : ℕ → ℕ) where
   pub large-two : (i : ℕ) → is_large (f i ∷ g i ∷ []) ≡ ltb 65535 (f i) || ltb 65535 (g i)
   large-two i = large-append (f i ∷ []) (g i ∷ []) ∙ ap (λ b. b || is_large (g i ∷ [])) (large-one (f i)) ∙ ap (λ b. ltb 65535 (f i) || b) (large-one (g i))
 
-  -- a pair has a large number, as `any` finds it
-  pub any-pair : (n : ℕ) → list_any (λ i. ltb 65535 (f i) || ltb 65535 (g i)) (range_with_len 0 n) ≡ is_large (pairs f g n)
-  unfolding is_large flatten up_to
-  any-pair zero = refl
-  any-pair (suc n) = any-more test 0 n ∙ ap (λ m. list_any test (range_with_len 0 n) || test m) (omega arith) ∙ ap (λ b. b || test n) (any-pair n) ∙ ap (λ b. is_large (pairs f g n) || b) (sym (large-two n)) ∙ sym (pairs-large n)
-    where
-      test : ℕ → Bool
-      test i = ltb 65535 (f i) || ltb 65535 (g i)
-
-  -- and each pair of small ones is small
+  -- each pair of small ones is small
   pub pair-small : (n : ℕ) → is_large (pairs f g n) ≡ false → (i : ℕ) → i < n → (f i ≤ 65535) × (g i ≤ 65535)
   pair-small (suc n) e i l =
       let d = neither (is_large (pairs f g n)) (is_large (f n ∷ g n ∷ [])) (sym (pairs-large n) ∙ e) in
@@ -202,3 +192,10 @@ module _ (w h : ℕ) (labels links table outputs : List ℕ) (n m : ℕ) where
   pub stored-parts : stored_bytes sizes ++ (stored_bytes pixels ++ (stored_bytes slots ++ stored_bytes (take m outputs))) ≡ stored_bytes numbers
   unfolding stored_numbers
   stored-parts = rw (bytes-append (sizes ++ pixels ++ slots) (take m outputs), bytes-append (sizes ++ pixels) slots, bytes-append sizes pixels, append_assoc, append_assoc)
+
+-- what the functions cite
+pub ruleset large_laws = (stored-large, two-lists, or_assoc)
+
+pub ruleset put_laws = (small_at, take_put, written-whole, pairs-put, pairs-length, take_all)
+
+pub ruleset check_laws = (refused-number, buffers-accepted, stored-length)

@@ -10,7 +10,7 @@ use Rattle.rules.specs.Base.{up_to}
 use Rattle.rules.specs.Layout.{slot_width}
 use Rattle.rules.specs.Paint.{slot_number}
 use Rattle.rules.specs.Stored.{is_large, slot_numbers}
-use Rattle.sheet.proofs.Bytes.{pairs-large, large-two}
+use Rattle.sheet.proofs.Bytes.{pairs-large, large-two, stored-small, stored-length, stored-parts, pair-small, small_at}
 
 -- number j of part i
 in-chunk : (n k : ℕ) (xs : List ℕ) (i j : ℕ) (d : List ℕ) (e : ℕ) → i < k → j < n → get_or (get_or (first_chunks n k xs) i d) j e ≡ get_or xs (n * i + j) e
@@ -43,3 +43,6 @@ any-slot table n (suc m) l =
     rw (in-slot table n m 0 [] k (omega arith), in-slot table n m 1 [] k (omega arith)) (sym (large-two (λ k. slot_number table k 0) (λ k. slot_number table k 1) m)) in
     rw (← add-one m) (list_any_more has_large (first_chunks slot_width n table) m [] (omega (arith, length-first_chunks slot_width n table)))
     ∙ ap₂ ◌||◌ a b ∙ sym (pairs-large (λ k. slot_number table k 0) (λ k. slot_number table k 1) m)
+
+-- what `write` cites
+pub ruleset write_laws = (stored-small, stored-length, stored-parts, pair-small, in-slot)

@@ -3,8 +3,7 @@ ghost use Rattle.std.specs.Prelude.{◌≡◌, false, ◌||◌, [], ◌∷◌, �
 ghost use Rattle.std.proofs.lemmas.List.Edits.{sets};
 ghost use Rattle.rules.specs.Refusals.{first_failed, refusal, size_checks, short_sheet, bad_counts, store_answer};
 ghost use Rattle.rules.specs.Stored.{stored_numbers, stored_bytes, is_large, two_bytes, slot_numbers};
-ghost use Rattle.rules.specs.Layout.{slot_width, InTable};
-ghost use Rattle.rules.specs.Paint.{slot_number};
+ghost use Rattle.rules.specs.Layout.{slot_width};
 ghost use Rattle.refusal.specs.Refusal.{answer_of};
 ghost use Rattle.sheet.specs.Code.Lengths.{CanStore};
 ghost use Rattle.sheet.specs.Code.Pairs.{pairs};
@@ -46,6 +45,7 @@ fn put(destination: &mut [u8], i: usize, x: u32)
 }
 
 // Writes the numbers, which fill the destination.
+#[tactic(auto, unfolding(rules::specs::Stored::stored_bytes), using(crate::proofs::Bytes::put_laws))]
 fn put_all(destination: &mut [u8], numbers: &[u32])
     requires exact { length destination.old ≡ 2 * length numbers.now }
     requires small { is_large numbers.now ≡ false }
@@ -57,6 +57,7 @@ fn put_all(destination: &mut [u8], numbers: &[u32])
 }
 
 // Writes two numbers for each of 0 .. count - 1, which fill the destination.
+#[tactic(auto, unfolding(rules::specs::Stored::stored_bytes), using(crate::proofs::Bytes::put_laws))]
 fn put_pairs<F: Fn(usize) -> u32, G: Fn(usize) -> u32>(
     destination: &mut [u8],
     count: usize,
@@ -78,6 +79,7 @@ fn put_pairs<F: Fn(usize) -> u32, G: Fn(usize) -> u32>(
 }
 
 // Whether a number to be stored takes more than two bytes.
+#[tactic(auto, unfolding(rules::specs::Stored::pixel_numbers), using(crate::proofs::Bytes::large_laws))]
 fn is_too_large(clusters: Clusters, labels: &[u32], pixels: usize) -> bool
     requires can_store { let s = clusters in
         CanStore pixels s.counts.n s.counts.m (length labels.now) (length s.links.now) (length s.table.now)
@@ -120,6 +122,7 @@ fn checked_pixels(clusters: Clusters, labels: usize) -> Result<u32, Refusal>
 }
 
 // The checks of storing; destination is a length.
+#[tactic(auto, unfolding(rules::specs::Refusals::store_answer), using(crate::proofs::Bytes::check_laws))]
 pub(crate) fn check(clusters: Clusters, labels: &[u32], destination: usize) -> Result<(), Refusal>
     ensures { let s = clusters.entry in
         let numbers = stored_numbers s.size.w s.size.h labels.now s.links.now s.table.now s.outputs.now
@@ -140,6 +143,7 @@ pub(crate) fn check(clusters: Clusters, labels: &[u32], destination: usize) -> R
 }
 
 // Writes the sheet.
+#[tactic(auto, unfolding(rules::specs::Stored::pixel_numbers, rules::specs::Stored::slot_numbers), using(crate::proofs::Slots::write_laws))]
 pub(crate) fn write(clusters: Clusters, labels: &[u32], destination: &mut [u8])
     requires can_store { let s = clusters in
         CanStore (s.size.w * s.size.h) s.counts.n s.counts.m (length labels.now) (length s.links.now)

@@ -35,18 +35,6 @@ read : (table : List ℕ) (place : ℕ) {slots : List (List ℕ)} {k : ℕ} → 
     → k < length slots → get_or (get_or slots k []) place 0 ≡ slot_number table k place
 read table place {slots} {k} m e n l = rw e (in-slot table (length table / slot_width) k place [] (omega (arith, n, l)) m)
 
-pub split_at_mut-of_sheet-requires : goal.split_at_mut-of_sheet-requires
-split_at_mut-of_sheet-requires c = omega (arith, exact (goal.at.split_at_mut-of_sheet-requires c).Start)
-
-pub split_at_mut-of_pixels-requires : goal.split_at_mut-of_pixels-requires
-split_at_mut-of_pixels-requires c = omega (arith, exact (goal.at.split_at_mut-of_pixels-requires c).Start, c.split_at_mut-of_sheet.ensures.back_len)
-
-pub split_at_mut-of_slots-requires : goal.split_at_mut-of_slots-requires
-split_at_mut-of_slots-requires c = omega (arith, exact (goal.at.split_at_mut-of_slots-requires c).Start, c.split_at_mut-of_sheet.ensures.back_len, c.split_at_mut-of_pixels.ensures.back_len)
-
-pub put_all-requires-clause-small : goal.put_all-requires-clause-small
-put_all-requires-clause-small c = (small (goal.at.put_all-requires-clause-small c).Start).sizes
-
 pub put_pairs-requires-clause-first : goal.put_pairs-requires-clause-first
 put_pairs-requires-clause-first c = λ p l. (search rules, λ x q. let e : x ≡ get_or c.args.labels.now p 0 = search rules in rw e (pixel (goal.at.put_pairs-requires-clause-first c).Start p l).0)
 
@@ -71,9 +59,6 @@ put_pairs-requires-2-clause-second c = λ k l.
 
 pub put_all-requires-2-clause-exact : goal.put_all-requires-2-clause-exact
 put_all-requires-2-clause-exact c = omega (arith, exact (goal.at.put_all-requires-2-clause-exact c).Start, c.split_at_mut-of_sheet.ensures.back_len, c.split_at_mut-of_pixels.ensures.back_len, c.split_at_mut-of_slots.ensures.back_len, c.requires.can_store.outputs-fit, length-take {A = ℕ})
-
-pub put_all-requires-2-clause-small : goal.put_all-requires-2-clause-small
-put_all-requires-2-clause-small c = (small (goal.at.put_all-requires-2-clause-small c).Start).outputs
 
 pub returns : goal.returns
 unfolding pixel_numbers slot_numbers
