@@ -9,13 +9,19 @@ use crate::{KeyingAction, RunnerConfig};
 use color::Color;
 
 // The colour of pixel i.
-#[tactic(auto, using(color::proofs::Chunks::pixel_chunk))]
+#[tactic(auto, unfolding(rules::specs::Color::pixel), using(color::proofs::Chunks::in_chunk))]
 pub(crate) fn color_at(image: &[u8], i: u32) -> Color
     requires { 4 * i + 4 ≤ length image.now }
     ensures { color_of result ≡ pixel image.now i }
 {
     let (pixels, _) = image.as_chunks::<4>();
-    Color::from(pixels[i as usize])
+    let [r, g, b, a] = &pixels[i as usize];
+    Color {
+        r: *r,
+        g: *g,
+        b: *b,
+        a: *a,
+    }
 }
 
 // Whether keying is on: the key is not (0,0,0,0).
