@@ -1,6 +1,10 @@
 -- The answer of `average` for a sum that has an average.
 use Rattle.std.specs.Prelude.{if◌then◌else◌}
-use mathlib.Core.Path.{◌≡◌, refl, ap}
+use Prim.Native.Nat.{◌*◌, ◌≤◌, ◌<◌}
+use native.Mathlib.Nat.{pos_of_ne-zero}
+use mathlib.Core.Bool.{Bool, and-eq-true_iff}
+use borrow.Author.Tests.{eqb-false, leb-true, not-true}
+use mathlib.Core.Path.{◌≡◌, refl, ap, sym, ◌∙◌}
 use mathlib.Core.Bool.{true, false}
 use mathlib.Core.Option.{some, none}
 use Rattle.std.specs.Prelude.{Option, Some, None}
@@ -22,3 +26,13 @@ never-none s o h e f = let z : ◌≡◌ {A = ℕ} 0 1 = cc (there s h, ap optio
 -- its colour is the average
 pub some-average : (s : ColorSum) (o : Option Color) (c : Color) → T (has_average s) → o ≡ Some c → option_of o ≡ average_or_none s → color_of c ≡ average s
 some-average s o c h e f = cc (there s h, ap option_of e)
+
+-- what a sum that has an average has passed
+pub passed : (s : ColorSum) {t : Bool} → t ≡ has_average s → t ≡ true → (0 < s.count) × (s.r ≤ 255 * s.count) × (s.g ≤ 255 * s.count) × (s.b ≤ 255 * s.count) × (s.a ≤ 255 * s.count)
+unfolding has_average
+passed s e h =
+    let a = (and-eq-true_iff _ _).0 (sym e ∙ h) in
+    let b = (and-eq-true_iff _ _).0 a.0 in
+    let g = (and-eq-true_iff _ _).0 b.0 in
+    let r = (and-eq-true_iff _ _).0 g.0 in
+    (pos_of_ne-zero (eqb-false _ _ (not-true _ r.0)), leb-true _ _ r.1, leb-true _ _ g.1, leb-true _ _ b.1, leb-true _ _ a.1)

@@ -1,8 +1,11 @@
 -- Laws on numbers that the proofs cite. Assume nothing.
-use Prim.Native.Nat.{ℕ, ◌+◌, ◌/◌, ◌^◌, ◌≤◌, ◌<◌}
+use Prim.Native.Nat.{ℕ, ◌+◌, ◌*◌, ◌/◌, ◌^◌, ◌≤◌, ◌<◌}
 use native.Mathlib.Nat.{lt_of_lt_of_le, pow-le-pow_right, div-eq_of_lt}
 use native.Mathlib.Omega.{arith}
-use mathlib.Core.Path.{◌≡◌, refl}
+use mathlib.Core.Path.{◌≡◌, refl, sym}
+use Rattle.std.specs.Prelude.{Option, Some, None, MatchOption, unwrap_or}
+use Rattle.color.specs.declared.ColorSum as declared
+use Rattle.color.specs.Colors.{sum_of}
 use mathlib.Core.Bool.{Bool, true, false, ◌&&◌}
 use Rattle.std.specs.Prelude.{if◌then◌else◌}
 use lib.IntN.{ℤ, pos, negsuc}
@@ -10,14 +13,14 @@ use lib.Signed.{le_z}
 use mir.Syntax.{w8, w32}
 use mir.Val.{Fits, SFits, to_z, of_z}
 use mir.ValLaws.{to_z_pos, to_z-of_z}
-use lib.Dec.{eqb}
-use borrow.Author.Tests.{ltb-false, eqb-true, le-ltb}
+use lib.Dec.{eqb, eqb→eq}
+use borrow.Author.Tests.{ltb-false, eqb-true, le-ltb, eq-eqb}
 use Rattle.rules.specs.Base.{apart}
 use Rattle.rules.specs.Color.{Color, ColorSum, ◌⊕◌, at_most, equal_color, shift_of, color_same}
 use Rattle.rules.specs.Refusals.{largest_total, sum_answer}
 use Rattle.rules.specs.Calls.{sum_call}
 use Rattle.rules.proofs.Accepted.{passed, neither}
-use Rattle.rules.proofs.Facts.{both_true}
+use Rattle.rules.proofs.Facts.{both_true, is_true, same_bool}
 
 -- the signed comparison of a number below 2^31 with a setting is the rules'
 pub at-most : {d : ℕ} {z : ℤ} → d < 2 ^ 31 → SFits w32 z → le_z (to_z w32 d) (to_z w32 (of_z w32 z)) ≡ at_most d z
@@ -90,8 +93,34 @@ pub sum-kept : (x y : ColorSum) → sum_answer x y ≡ 7 → sum_call x y ≡ x
 unfolding sum_call
 sum-kept x y e = rw (e) refl
 
+-- the sum, or x where there is none
+pub sum-or : (o : Option declared.ColorSum) (x y : declared.ColorSum)
+    → MatchOption o (sum_answer (sum_of x) (sum_of y) ≡ 7) (λ s. (sum_answer (sum_of x) (sum_of y) ≡ 0) × (sum_of s ≡ sum_call (sum_of x) (sum_of y)))
+    → sum_of (unwrap_or o x) ≡ sum_call (sum_of x) (sum_of y)
+sum-or None x y h = sym (sum-kept _ _ h)
+sum-or (Some s) x y h = h.1
+
 -- its five totals
 pub five-totals : (x y : ColorSum) {r g b a n : ℕ} → r ≡ x.r + y.r → g ≡ x.g + y.g → b ≡ x.b + y.b → a ≡ x.a + y.a → n ≡ x.count + y.count
     → sum_answer x y ≡ 0 → record { r = r; g = g; b = b; a = a; count = n } ≡ sum_call x y
 unfolding ◌⊕◌
 five-totals x y r g b a n e = rw (sum-taken x y e, r, g, b, a, n) refl
+
+-- four bytes are told by one number
+module _ (x y : Color) (xr : x.r < 256) (xg : x.g < 256) (xb : x.b < 256) (yr : y.r < 256) (yg : y.g < 256) (yb : y.b < 256) where
+  pub by_number : {p q : ℕ} → p ≡ x.r + 256 * x.g + 65536 * x.b + 16777216 * x.a → q ≡ y.r + 256 * y.g + 65536 * y.b + 16777216 * y.a → eqb p q ≡ equal_color x y
+  unfolding equal_color
+  by_number {p} {q} e f = same_bool (eqb p q) (equal_color x y)
+      (λ z. let w : p ≡ q = eqb→eq p q z in rw (eq-eqb x.r y.r (omega arith), eq-eqb x.g y.g (omega arith), eq-eqb x.b y.b (omega arith), eq-eqb x.a y.a (omega arith)) tt)
+      (λ z.
+      let a = equal-channels x y (is_true (equal_color x y) z) in
+      rw (eq-eqb p q (omega (arith, e, f, a))) tt)
+
+-- what the functions cite
+pub ruleset close_laws = (at-most, gone)
+
+pub ruleset same_laws = (at-most, like-equal, to_z-of_z)
+
+pub ruleset added_laws = (totals-fit, not-refused, refused, five-totals)
+
+pub ruleset kept_laws = (sum-kept, sum-taken)

@@ -9,16 +9,18 @@ use crate::{KeyingAction, RunnerConfig};
 use color::Color;
 
 // The colour of pixel i.
+#[tactic(auto, unfolding(rules::specs::Color::pixel), using(color::proofs::Chunks::in_chunk))]
 pub(crate) fn color_at(image: &[u8], i: u32) -> Color
     requires { 4 * i + 4 ≤ length image.now }
     ensures { color_of result ≡ pixel image.now i }
 {
-    let b = 4 * (i as usize);
+    let (pixels, _) = image.as_chunks::<4>();
+    let [r, g, b, a] = &pixels[i as usize];
     Color {
-        r: image[b],
-        g: image[b + 1],
-        b: image[b + 2],
-        a: image[b + 3],
+        r: *r,
+        g: *g,
+        b: *b,
+        a: *a,
     }
 }
 

@@ -9,11 +9,11 @@ use borrow.Author.Tests.{leb-false, ltb-false}
 use Rattle.std.specs.Prelude.{Result, Ok, Err}
 use Rattle.std.specs.Result.{is_err}
 use Rattle.refusal.proofs.Laws.{refused-number}
-use Rattle.refusal.specs.Refusal.{number_of, answer_of}
+use Rattle.refusal.specs.Refusal.{answer_of}
 use Rattle.refusal.specs.declared.Refusal.{Refusal}
 use lib.Dec.{leb, ltb, eqb}
 use Rattle.rules.specs.Refusals.{Check, refusal, first_failed, size_checks, limit, short_sheet, bad_counts, row_answer, store_answer}
-use Rattle.rules.proofs.Accepted.{passed, neither, long-sheet, good-counts, equal, Numbered, failed-later}
+use Rattle.rules.proofs.Accepted.{passed, neither, long-sheet, good-counts, equal, failed-later}
 use Rattle.sheet.specs.Code.Lengths.{CanStore}
 
 -- an answer that is an error is not 0, and one that is none is 0
@@ -24,10 +24,6 @@ error-number (Err x) e = refused-number x
 pub accepted-number : {A : Type 0} (r : Result A Refusal) → is_err r ≡ false → answer_of r ≡ 0
 accepted-number (Ok x) e = refl
 accepted-number (Err x) e = cc
-
--- what the first checks refuse is refused whatever the later ones are
-pub refused-first : (r : Refusal) (first later : List Check) → Numbered first → number_of r ≡ first_failed first → number_of r ≡ first_failed (first ++ later)
-refused-first r first later n e = rw (failed-later first later n, ← e, refused-number r)
 
 -- picture is a length
 pub row-accepted : (w h picture y : ℕ) → row_answer w h picture y ≡ 0 → (w * h ≤ limit) × (picture ≡ 4 * (w * h)) × (y < h)
@@ -77,3 +73,8 @@ module _ (w h labels links table outputs n m : ℕ) where
       let c5 = buffers-accepted (refusal 12 large ∷ refusal 13 (not (eqb destination exact)) ∷ []) e in
       let c12 = passed 11 large _ c5.1 in
       (c5.0, (c12.0, equal destination exact (passed 12 (not (eqb destination exact)) 0 c12.1).0))
+
+-- what the functions cite
+pub ruleset row_laws = (row-accepted, error-number, accepted-number)
+
+pub ruleset store_laws = (store-accepted, refused-number)

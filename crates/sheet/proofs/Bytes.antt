@@ -1,7 +1,7 @@
 -- The numbers of a stored sheet and their bytes: where they lie, and whether one of them takes more than two bytes. Assumes nothing.
 use mathlib.Core.Path.{◌≡◌, refl, sym, ap, ◌∙◌}
 use mathlib.Core.Bool.{Bool, true, false, not, ◌&&◌, ◌||◌, and-true, or-false, or_assoc}
-use mathlib.Core.List.{List, [], ◌∷◌, ◌++◌, append-nil, flatten}
+use mathlib.Core.List.{List, [], ◌∷◌, ◌++◌, append-nil, append_assoc, flatten}
 use Prim.Native.Nat.{ℕ, zero, suc, ◌+◌, ◌*◌, ◌≤◌, ◌<◌}
 use native.Mathlib.Decide.{ℕ_discrete}
 use native.Mathlib.Numerals.{add-one}
@@ -11,12 +11,15 @@ use borrow.Author.Tests.{leb-true, leb-false, lt-ltb, le-ltb, ltb-false}
 use lib.Dec.{leb, ltb}
 use lib.ListN.{length, get_or, set, take, length-append, length-take, drop_of_length-le}
 use lib.Seq.{sets, sets-eq, append_snoc, take-suc}
-use Rattle.std.specs.List.{fold, list_any, range_with_len}
+use Rattle.std.specs.List.{fold}
 use Rattle.sheet.specs.Code.Pairs.{pairs}
 use Rattle.rules.specs.Base.{up_to, none_above}
 use Rattle.rules.specs.Layout.{first_pixel_place, pixel_count_place}
 use Rattle.rules.specs.Paint.{slot_number}
 use Rattle.rules.specs.Stored.{is_large, two_bytes, stored_bytes, pixel_numbers, slot_numbers, stored_numbers}
+use Rattle.std.proofs.lemmas.List.{take_all}
+use Rattle.refusal.proofs.Laws.{refused-number}
+use Rattle.sheet.proofs.Accepted.{buffers-accepted}
 use Rattle.rules.proofs.Accepted.{neither}
 use Rattle.rules.proofs.Layouts.{flatten-snoc, spread}
 
@@ -44,6 +47,9 @@ bytes-more d₀ d xs ys from at e p = rw (bytes-append xs ys, sets-append, bytes
 -- a whole list written over
 sets-whole : (l xs : List ℕ) → length xs ≡ length l → sets l 0 xs ≡ xs
 sets-whole l xs e = sets-eq xs l 0 (omega arith) ∙ ap (λ r. xs ++ r) (drop_of_length-le l {i = 0 + length xs} (omega arith)) ∙ append-nil xs
+
+pub written-whole : (d xs : List ℕ) → length d ≡ 2 * length xs → sets d 0 (stored_bytes xs) ≡ stored_bytes xs
+written-whole d xs e = sets-whole d (stored_bytes xs) (bytes-length xs ∙ sym e)
 
 -- ---- numbers that take more than two bytes
 
@@ -77,33 +83,20 @@ fold-large b (x ∷ xs) = fold-large (b || ltb 65535 x) xs ∙ or_assoc b (ltb 6
 
 -- ---- two numbers for each of 0 .. n - 1, as of pixels and of slots
 
-any-more : (p : ℕ → Bool) (a n : ℕ) → list_any p (range_with_len a (suc n)) ≡ list_any p (range_with_len a n) || p (a + n)
-any-more p a zero = rw (add-zero) (or-false (p a))
-any-more p a (suc n) = ap (λ b. p a || b) (any-more p (a + 1) n) ∙ sym (or_assoc (p a) _ _) ∙ ap (λ m. p a || list_any p (range_with_len (a + 1) n) || p m) (omega arith)
-
 module _ (f g : ℕ → ℕ) where
-  pairs-length : (n : ℕ) → length (pairs f g n) ≡ 2 * n
+  pub pairs-length : (n : ℕ) → length (pairs f g n) ≡ 2 * n
   pairs-length = spread _ 2 (λ i. refl)
 
   pairs-more : (n : ℕ) → pairs f g (suc n) ≡ pairs f g n ++ (f n ∷ g n ∷ [])
   pairs-more n = flatten-snoc _ n
 
-  pairs-large : (n : ℕ) → is_large (pairs f g (suc n)) ≡ is_large (pairs f g n) || is_large (f n ∷ g n ∷ [])
+  pub pairs-large : (n : ℕ) → is_large (pairs f g (suc n)) ≡ is_large (pairs f g n) || is_large (f n ∷ g n ∷ [])
   pairs-large n = ap is_large (pairs-more n) ∙ large-append _ _
 
-  large-two : (i : ℕ) → is_large (f i ∷ g i ∷ []) ≡ ltb 65535 (f i) || ltb 65535 (g i)
+  pub large-two : (i : ℕ) → is_large (f i ∷ g i ∷ []) ≡ ltb 65535 (f i) || ltb 65535 (g i)
   large-two i = large-append (f i ∷ []) (g i ∷ []) ∙ ap (λ b. b || is_large (g i ∷ [])) (large-one (f i)) ∙ ap (λ b. ltb 65535 (f i) || b) (large-one (g i))
 
-  -- a pair has a large number, as `any` finds it
-  pub any-pair : (n : ℕ) → list_any (λ i. ltb 65535 (f i) || ltb 65535 (g i)) (range_with_len 0 n) ≡ is_large (pairs f g n)
-  unfolding is_large flatten up_to
-  any-pair zero = refl
-  any-pair (suc n) = any-more test 0 n ∙ ap (λ m. list_any test (range_with_len 0 n) || test m) (omega arith) ∙ ap (λ b. b || test n) (any-pair n) ∙ ap (λ b. is_large (pairs f g n) || b) (sym (large-two n)) ∙ sym (pairs-large n)
-    where
-      test : ℕ → Bool
-      test i = ltb 65535 (f i) || ltb 65535 (g i)
-
-  -- and each pair of small ones is small
+  -- each pair of small ones is small
   pub pair-small : (n : ℕ) → is_large (pairs f g n) ≡ false → (i : ℕ) → i < n → (f i ≤ 65535) × (g i ≤ 65535)
   pair-small (suc n) e i l =
       let d = neither (is_large (pairs f g n)) (is_large (f n ∷ g n ∷ [])) (sym (pairs-large n) ∙ e) in
@@ -111,13 +104,13 @@ module _ (f g : ℕ → ℕ) where
   pair-small zero e i l = absurd (omega arith)
 
   -- one turn of a loop that writes them
-  pub pairs-put : (d₀ d d₁ d₂ : List ℕ) (from n x y : ℕ) → x ≡ f n → y ≡ g n → d ≡ sets d₀ from (stored_bytes (pairs f g n))
-      → d₁ ≡ sets d (from + 4 * n) (two_bytes x) → d₂ ≡ sets d₁ (from + 4 * n + 2) (two_bytes y) → d₂ ≡ sets d₀ from (stored_bytes (pairs f g (n + 1)))
+  pub pairs-put : (d₀ d d₁ d₂ : List ℕ) (n x y : ℕ) → x ≡ f n → y ≡ g n → d ≡ sets d₀ 0 (stored_bytes (pairs f g n))
+      → d₁ ≡ sets d (2 * (2 * n)) (two_bytes x) → d₂ ≡ sets d₁ (2 * (2 * n + 1)) (two_bytes y) → d₂ ≡ sets d₀ 0 (stored_bytes (pairs f g (n + 1)))
   unfolding stored_bytes
-  pairs-put d₀ d d₁ d₂ from n x y a b e e₁ e₂ =
-      let h : d₁ ≡ sets d₀ from (stored_bytes (pairs f g n ++ (f n ∷ []))) = e₁ ∙ rw a (bytes-more d₀ d (pairs f g n) (f n ∷ []) from (from + 4 * n) e (omega (arith, pairs-length n))) in
-      e₂ ∙ rw b (bytes-more d₀ d₁ (pairs f g n ++ (f n ∷ [])) (g n ∷ []) from (from + 4 * n + 2) h (omega (arith, pairs-length n, length-append (pairs f g n) (f n ∷ []))))
-      ∙ ap (λ r. sets d₀ from (stored_bytes r)) (append_snoc (pairs f g n) (f n) (g n ∷ []) ∙ sym (pairs-more n) ∙ ap (pairs f g) (sym (add-one n)))
+  pairs-put d₀ d d₁ d₂ n x y a b e e₁ e₂ =
+      let h : d₁ ≡ sets d₀ 0 (stored_bytes (pairs f g n ++ (f n ∷ []))) = e₁ ∙ rw a (bytes-more d₀ d (pairs f g n) (f n ∷ []) 0 (2 * (2 * n)) e (omega (arith, pairs-length n))) in
+      e₂ ∙ rw b (bytes-more d₀ d₁ (pairs f g n ++ (f n ∷ [])) (g n ∷ []) 0 (2 * (2 * n + 1)) h (omega (arith, pairs-length n, length-append (pairs f g n) (f n ∷ []))))
+      ∙ ap (λ r. sets d₀ 0 (stored_bytes r)) (append_snoc (pairs f g n) (f n) (g n ∷ []) ∙ sym (pairs-more n) ∙ ap (pairs f g) (sym (add-one n)))
 
 -- ---- the first entries of a list
 
@@ -126,9 +119,9 @@ module _ (xs : List ℕ) (i : ℕ) (l : i < length xs) where
   take_more = rw (add-one i) (take-suc xs i 0 l)
 
   -- one turn of a loop that writes them
-  pub take_put : (d₀ d : List ℕ) (from : ℕ) → d ≡ sets d₀ from (stored_bytes (take i xs)) → sets d (from + 2 * i) (two_bytes (get_or xs i 0)) ≡ sets d₀ from (stored_bytes (take (i + 1) xs))
+  pub take_put : (d₀ d : List ℕ) → d ≡ sets d₀ 0 (stored_bytes (take i xs)) → sets d (2 * i) (two_bytes (get_or xs i 0)) ≡ sets d₀ 0 (stored_bytes (take (i + 1) xs))
   unfolding stored_bytes
-  take_put d₀ d from e = bytes-more d₀ d (take i xs) _ from (from + 2 * i) e (omega (arith, length-take i xs)) ∙ ap (λ r. sets d₀ from (stored_bytes r)) (sym take_more)
+  take_put d₀ d e = bytes-more d₀ d (take i xs) _ 0 (2 * i) e (omega (arith, length-take i xs)) ∙ ap (λ r. sets d₀ 0 (stored_bytes r)) (sym take_more)
 
 -- the numbers of pixels are those of two lists
 pub two-lists : (xs ys : List ℕ) (n : ℕ) → n ≤ length xs → n ≤ length ys
@@ -195,13 +188,14 @@ module _ (w h : ℕ) (labels links table outputs : List ℕ) (n m : ℕ) where
   unfolding stored_numbers
   stored-length l = omega (arith, length-append (sizes ++ pixels ++ slots) (take m outputs), to-outputs, length-take m outputs)
 
-  -- the four parts written one after another
-  pub stored-put : (d d₁ d₂ d₃ d₄ : List ℕ) → length d ≡ 2 * length numbers
-      → d₁ ≡ sets d 0 (stored_bytes sizes) → d₂ ≡ sets d₁ 8 (stored_bytes pixels) → d₃ ≡ sets d₂ (8 + 4 * (w * h)) (stored_bytes slots) → d₄ ≡ sets d₃ (8 + 4 * (w * h) + 4 * n) (stored_bytes (take m outputs))
-      → d₄ ≡ stored_bytes numbers
+  -- the four parts, each by itself
+  pub stored-parts : stored_bytes sizes ++ (stored_bytes pixels ++ (stored_bytes slots ++ stored_bytes (take m outputs))) ≡ stored_bytes numbers
   unfolding stored_numbers
-  stored-put d d₁ d₂ d₃ d₄ l e₁ e₂ e₃ e₄ =
-      let f₂ = e₂ ∙ bytes-more d d₁ sizes pixels 0 8 e₁ (omega arith) in
-      let f₃ = e₃ ∙ bytes-more d d₂ (sizes ++ pixels) slots 0 (8 + 4 * (w * h)) f₂ (omega (arith, to_slots)) in
-      e₄ ∙ bytes-more d d₃ (sizes ++ pixels ++ slots) (take m outputs) 0 (8 + 4 * (w * h) + 4 * n) f₃ (omega (arith, to-outputs))
-      ∙ sets-whole d (stored_bytes numbers) (bytes-length numbers ∙ sym l)
+  stored-parts = rw (bytes-append (sizes ++ pixels ++ slots) (take m outputs), bytes-append (sizes ++ pixels) slots, bytes-append sizes pixels, append_assoc, append_assoc)
+
+-- what the functions cite
+pub ruleset large_laws = (stored-large, two-lists, or_assoc)
+
+pub ruleset put_laws = (small_at, take_put, written-whole, pairs-put, pairs-length, take_all)
+
+pub ruleset check_laws = (refused-number, buffers-accepted, stored-length)

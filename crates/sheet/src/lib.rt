@@ -13,6 +13,7 @@ use image::{Clusters, Size};
 use refusal::Refusal;
 
 // Whether `row` gives a row on the same inputs.
+#[tactic(auto, unfolding(rules::specs::Refusals::row_answer))]
 pub fn row_check(size: Size, picture: &[u8], y: u32) -> Result<(), Refusal>
     ensures { answer_of result ≡ row_answer size.w size.h (length picture.now) y }
 {
@@ -27,6 +28,7 @@ pub fn row_check(size: Size, picture: &[u8], y: u32) -> Result<(), Refusal>
 }
 
 // Row y of the picture, as that part of it; where the call is refused, its first zero bytes.
+#[tactic(auto, unfolding(rules::specs::Calls::row_call), using(crate::proofs::Accepted::row_laws))]
 pub fn row(size: Size, picture: &[u8], y: u32) -> &[u8]
     ensures { result.now ≡ row_call size.w size.h picture.now y }
 {
@@ -40,6 +42,7 @@ pub fn row(size: Size, picture: &[u8], y: u32) -> &[u8]
 
 // Stores the sheet in two-byte numbers, low byte first: w, h, n, m; label and link of each pixel; first pixel and count
 // of each slot; the outputs.
+#[tactic(auto, unfolding(rules::specs::Calls::store_call), using(crate::proofs::Accepted::store_laws))]
 pub fn store(clusters: Clusters, labels: &[u32], destination: &mut [u8]) -> Result<(), Refusal>
     ensures { let s = clusters.entry in record { answer = answer_of result; destination = destination.new }
         ≡ store_call s.size.w s.size.h labels.now s.links.now s.table.now s.outputs.now

@@ -3,8 +3,7 @@ ghost use Rattle.std.specs.Prelude.{◌≡◌, false, ◌||◌, [], ◌∷◌, �
 ghost use Rattle.std.proofs.lemmas.List.Edits.{sets};
 ghost use Rattle.rules.specs.Refusals.{first_failed, refusal, size_checks, short_sheet, bad_counts, store_answer};
 ghost use Rattle.rules.specs.Stored.{stored_numbers, stored_bytes, is_large, two_bytes, slot_numbers};
-ghost use Rattle.rules.specs.Layout.{slot_width, InTable};
-ghost use Rattle.rules.specs.Paint.{slot_number};
+ghost use Rattle.rules.specs.Layout.{slot_width};
 ghost use Rattle.refusal.specs.Refusal.{answer_of};
 ghost use Rattle.sheet.specs.Code.Lengths.{CanStore};
 ghost use Rattle.sheet.specs.Code.Pairs.{pairs};
@@ -25,70 +24,62 @@ fn has_large(numbers: &[u32]) -> bool
         .fold(false, |large, number| large | (LARGEST < *number))
 }
 
-// The number at a place of slot k.
-fn slot_number(table: &[u32], k: usize, place: usize) -> u32
-    requires slot { InTable k table.now }
-    requires place { place < slot_width }
-    ensures { result ≡ slot_number table.now k place }
-{
-    table[layout::SLOT_WIDTH * k + place]
-}
-
 // Whether a first pixel or a count of the first n slots takes more than two bytes.
 fn has_large_slot(table: &[u32], n: usize) -> bool
     requires { slot_width * n ≤ length table.now }
     ensures { result ≡ is_large (slot_numbers table.now n) }
 {
-    (0..n).any(|k| {
-        (LARGEST < slot_number(table, k, layout::FIRST_PIXEL))
-            | (LARGEST < slot_number(table, k, layout::PIXEL_COUNT))
+    let (slots, _) = table.as_chunks::<{ layout::SLOT_WIDTH }>();
+    slots[..n].iter().any(|slot| {
+        (LARGEST < slot[layout::FIRST_PIXEL]) | (LARGEST < slot[layout::PIXEL_COUNT])
     })
 }
 
-// Writes x in two bytes, low byte first.
-fn put(destination: &mut [u8], at: usize, x: u32)
-    requires room { at + 2 ≤ length destination.old }
+// Writes x as number i, in two bytes, low byte first.
+fn put(destination: &mut [u8], i: usize, x: u32)
+    requires room { 2 * i + 2 ≤ length destination.old }
     requires small { x ≤ 65535 }
-    ensures { destination.new ≡ sets destination.old at (two_bytes x) }
+    ensures { destination.new ≡ sets destination.old (2 * i) (two_bytes x) }
 {
-    destination[at..at + 2].copy_from_slice(&(x as u16).to_le_bytes());
+    destination[2 * i..2 * i + 2].copy_from_slice(&(x as u16).to_le_bytes());
 }
 
-// Writes the numbers one after another, from a place on.
-fn put_all(destination: &mut [u8], from: usize, numbers: &[u32])
-    requires room { from + 2 * length numbers.now ≤ length destination.old }
+// Writes the numbers, which fill the destination.
+#[tactic(auto, unfolding(rules::specs::Stored::stored_bytes), using(crate::proofs::Bytes::put_laws))]
+fn put_all(destination: &mut [u8], numbers: &[u32])
+    requires exact { length destination.old ≡ 2 * length numbers.now }
     requires small { is_large numbers.now ≡ false }
-    ensures { destination.new ≡ sets destination.old from (stored_bytes numbers.now) }
+    ensures { destination.new ≡ stored_bytes numbers.now }
 {
     for (i, number) in numbers.iter().enumerate() {
-        put(destination, from + 2 * i, *number);
+        put(destination, i, *number);
     }
 }
 
-// Writes two numbers for each of 0 .. count - 1 one after another, from a place on.
+// Writes two numbers for each of 0 .. count - 1, which fill the destination.
+#[tactic(auto, unfolding(rules::specs::Stored::stored_bytes), using(crate::proofs::Bytes::put_laws))]
 fn put_pairs<F: Fn(usize) -> u32, G: Fn(usize) -> u32>(
     destination: &mut [u8],
-    from: usize,
     count: usize,
     first: F,
     second: G,
 )
-    requires room { from + 4 * count ≤ length destination.old }
+    requires exact { length destination.old ≡ 4 * count }
     requires first { (i : ℕ) → i < count → F.pre first i × ((x : ℕ) → F.post first i x → x ≤ 65535) }
     requires second { (i : ℕ) → i < count → G.pre second i × ((x : ℕ) → G.post second i x → x ≤ 65535) }
     ensures { (f g : ℕ → ℕ)
         → ((i x : ℕ) → i < count → F.post first i x → x ≡ f i)
         → ((i x : ℕ) → i < count → G.post second i x → x ≡ g i)
-        → destination.new ≡ sets destination.old from (stored_bytes (pairs f g count)) }
+        → destination.new ≡ stored_bytes (pairs f g count) }
 {
     for i in 0..count {
-        let at = from + 4 * i;
-        put(destination, at, first(i));
-        put(destination, at + 2, second(i));
+        put(destination, 2 * i, first(i));
+        put(destination, 2 * i + 1, second(i));
     }
 }
 
 // Whether a number to be stored takes more than two bytes.
+#[tactic(auto, unfolding(rules::specs::Stored::pixel_numbers), using(crate::proofs::Bytes::large_laws))]
 fn is_too_large(clusters: Clusters, labels: &[u32], pixels: usize) -> bool
     requires can_store { let s = clusters in
         CanStore pixels s.counts.n s.counts.m (length labels.now) (length s.links.now) (length s.table.now)
@@ -131,6 +122,7 @@ fn checked_pixels(clusters: Clusters, labels: usize) -> Result<u32, Refusal>
 }
 
 // The checks of storing; destination is a length.
+#[tactic(auto, unfolding(rules::specs::Refusals::store_answer), using(crate::proofs::Bytes::check_laws))]
 pub(crate) fn check(clusters: Clusters, labels: &[u32], destination: usize) -> Result<(), Refusal>
     ensures { let s = clusters.entry in
         let numbers = stored_numbers s.size.w s.size.h labels.now s.links.now s.table.now s.outputs.now
@@ -151,6 +143,7 @@ pub(crate) fn check(clusters: Clusters, labels: &[u32], destination: usize) -> R
 }
 
 // Writes the sheet.
+#[tactic(auto, unfolding(rules::specs::Stored::pixel_numbers, rules::specs::Stored::slot_numbers), using(crate::proofs::Slots::write_laws))]
 pub(crate) fn write(clusters: Clusters, labels: &[u32], destination: &mut [u8])
     requires can_store { let s = clusters in
         CanStore (s.size.w * s.size.h) s.counts.n s.counts.m (length labels.now) (length s.links.now)
@@ -173,15 +166,17 @@ pub(crate) fn write(clusters: Clusters, labels: &[u32], destination: &mut [u8])
     } = clusters;
     let pixels = (size.w * size.h) as usize;
     let n = counts.n as usize;
-    let to_slots = 8 + 4 * pixels;
-    put_all(destination, 0, &[size.w, size.h, counts.n, counts.m]);
-    put_pairs(destination, 8, pixels, |p| labels[p], |p| links[p]);
+    let (slots, _) = table.as_chunks::<{ layout::SLOT_WIDTH }>();
+    let (of_sheet, rest) = destination.split_at_mut(8);
+    let (of_pixels, rest) = rest.split_at_mut(4 * pixels);
+    let (of_slots, of_outputs) = rest.split_at_mut(4 * n);
+    put_all(of_sheet, &[size.w, size.h, counts.n, counts.m]);
+    put_pairs(of_pixels, pixels, |p| labels[p], |p| links[p]);
     put_pairs(
-        destination,
-        to_slots,
+        of_slots,
         n,
-        |k| slot_number(table, k, layout::FIRST_PIXEL),
-        |k| slot_number(table, k, layout::PIXEL_COUNT),
+        |k| slots[k][layout::FIRST_PIXEL],
+        |k| slots[k][layout::PIXEL_COUNT],
     );
-    put_all(destination, to_slots + 4 * n, &outputs[..counts.m as usize]);
+    put_all(of_outputs, &outputs[..counts.m as usize]);
 }

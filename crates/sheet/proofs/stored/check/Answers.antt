@@ -1,14 +1,12 @@
-use mathlib.Core.Path.{◌≡◌, sym, ◌∙◌}
+use mathlib.Core.Path.{◌≡◌, sym}
 use mathlib.Core.List.{◌∷◌, ◌++◌, []}
 use Prim.Native.Nat.{◌+◌, ◌*◌}
-use Rattle.std.proofs.Common.{rules, not, eqb}
 use borrow.Author.Tests.{eq-eqb, ne_eqb}
 use lib.ListN.{length}
-use Rattle.rules.specs.Refusals.{refusal, first_failed, size_checks, store_answer}
-use Rattle.rules.specs.Stored.{stored_numbers, is_large}
-use Rattle.refusal.specs.Refusal.{number_of, answer_of}
+use Rattle.rules.specs.Refusals.{refusal, first_failed, size_checks}
+use Rattle.rules.specs.Stored.{stored_numbers}
 use Rattle.sheet.specs.Code.Lengths.{CanStore}
-use Rattle.sheet.proofs.Accepted.{short, buffers-accepted, refused-first, store-number}
+use Rattle.sheet.proofs.Accepted.{short, buffers-accepted, store-number}
 use Rattle.sheet.proofs.Bytes.{stored-length}
 use Rattle.sheet.proofs.stored.check.Goals as goal
 use Rattle.sheet.proofs.stored.check.Goals.{In_ok-pixels}
@@ -23,20 +21,6 @@ can_store c = (buffers-accepted _ _ _ _ _ _ _ _ [] (early-zero c)).0
 -- the length that is asked for
 exact : (c : In_ok-pixels) → (let s = c.args.clusters in 2 * length (stored_numbers s.size.w s.size.h c.args.labels.now s.links.now s.table.now s.outputs.now s.counts.n s.counts.m) ≡ 8 + 4 * c.in_ok-pixels.field-0 + 4 * s.counts.n + 2 * s.counts.m)
 exact c = let s = c.args.clusters in rw c.in_ok-pixels.ensures.pixels (stored-length s.size.w s.size.h _ _ _ _ s.counts.n s.counts.m (can_store c).outputs-fit)
-
-pub returns-in_err-pixels : goal.returns-in_err-pixels
-unfolding store_answer
-returns-in_err-pixels c = let s = c.args.clusters in
-    let e : answer_of c.from_residual.result ≡ number_of c.in_err-pixels.field-0.0 = search rules in
-    let numbers = stored_numbers s.size.w s.size.h c.args.labels.now s.links.now s.table.now s.outputs.now s.counts.n s.counts.m in
-    e ∙ refused-first _ (size_checks s.size.w s.size.h ++ (refusal 5 (short s.size.w s.size.h (length c.args.labels.now) (length s.links.now) (length s.table.now) (length s.outputs.now) s.counts.n s.counts.m) ∷ []))
-    (refusal 12 (is_large numbers) ∷ refusal 13 (not (eqb c.args.destination (2 * length numbers))) ∷ []) tt c.in_err-pixels.ensures.answer
-
-pub is_too_large-requires : goal.is_too_large-requires
-is_too_large-requires c = record { can_store = rw c.in_ok-pixels.ensures.pixels (can_store (goal.at.is_too_large-requires c).In_ok-pixels); pixels = c.in_ok-pixels.ensures.pixels }
-
-pub returns-then-is_too_large : goal.returns-then-is_too_large
-returns-then-is_too_large c = rw (store-number, early-zero (goal.at.returns-then-is_too_large c).In_ok-pixels, ← c.is_too_large.ensures, c.if-is_too_large.true)
 
 pub returns-then-destination-pixels : goal.returns-then-destination-pixels
 returns-then-destination-pixels c = rw (store-number, early-zero (goal.at.returns-then-destination-pixels c).In_ok-pixels, ← c.is_too_large.ensures, c.if-is_too_large.false, exact (goal.at.returns-then-destination-pixels c).In_ok-pixels, ne_eqb _ _ c.if-destination-pixels.true)

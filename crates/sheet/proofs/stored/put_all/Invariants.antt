@@ -7,5 +7,5 @@ use Rattle.sheet.proofs.stored.put_all.Given as goal
 abbrev pub invariant-loop-i : goal.invariant-loop-i
 invariant-loop-i l = record {
   long : length l.destination ≡ length l.initial.destination;
-  written : l.destination ≡ sets l.initial.destination l.from (stored_bytes (take l.i l.numbers));
+  written : l.destination ≡ sets l.initial.destination 0 (stored_bytes (take l.i l.numbers));
 }

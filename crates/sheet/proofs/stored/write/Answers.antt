@@ -2,10 +2,15 @@ use mathlib.Core.Path.{◌≡◌, ◌∙◌}
 use Prim.Native.Nat.{ℕ, ◌+◌, ◌*◌, ◌≤◌, ◌<◌}
 use native.Mathlib.Omega.{arith}
 use Rattle.std.proofs.Common.{rules}
+use mathlib.Core.List.{List, []}
+use Prim.Native.Nat.{◌/◌}
 use lib.ListN.{length, get_or, length-take}
 use Rattle.rules.specs.Paint.{slot_number}
 use Rattle.rules.specs.Stored.{pixel_numbers, slot_numbers}
-use Rattle.sheet.proofs.Bytes.{Small, stored-small, stored-length, stored-put, pair-small}
+use Rattle.sheet.proofs.Bytes.{Small, stored-small, stored-length, stored-parts, pair-small}
+use Rattle.std.specs.Simd.{first_chunks}
+use Rattle.rules.specs.Layout.{slot_width}
+use Rattle.sheet.proofs.Slots.{in-slot}
 use Rattle.sheet.proofs.stored.write.Goals as goal
 use Rattle.sheet.proofs.stored.write.Goals.{Start}
 
@@ -25,33 +30,43 @@ slot : (c : Start) (k : ℕ) → (let s = c.args.clusters in k < s.counts.n → 
 unfolding slot_numbers
 slot c = pair-small (λ k. slot_number c.args.clusters.table.now k 0) (λ k. slot_number c.args.clusters.table.now k 1) c.args.clusters.counts.n (small c).slots
 
-pub put_all-requires : goal.put_all-requires
-put_all-requires c = record { room = omega (arith, exact (goal.at.put_all-requires c).Start); small = (small (goal.at.put_all-requires c).Start).sizes }
+-- a place of a slot, read from the parts of the table
+read : (table : List ℕ) (place : ℕ) {slots : List (List ℕ)} {k : ℕ} → place < slot_width → slots ≡ first_chunks slot_width (length table / slot_width) table → length slots ≡ length table / slot_width
+    → k < length slots → get_or (get_or slots k []) place 0 ≡ slot_number table k place
+read table place {slots} {k} m e n l = rw e (in-slot table (length table / slot_width) k place [] (omega (arith, n, l)) m)
 
-pub put_pairs-requires : goal.put_pairs-requires
-put_pairs-requires c = let d = (goal.at.put_pairs-requires c).Start in record {
-  room = omega (arith, exact d, c.put_all.auto.destination);
-  first = λ p l. (search rules, λ x q. let e : x ≡ get_or c.args.labels.now p 0 = search rules in rw e (pixel d p l).0);
-  second = λ p l. (search rules, λ x q. let e : x ≡ get_or c.args.clusters.links.now p 0 = search rules in rw e (pixel d p l).1);
-}
+pub put_pairs-requires-clause-first : goal.put_pairs-requires-clause-first
+put_pairs-requires-clause-first c = λ p l. (search rules, λ x q. let e : x ≡ get_or c.args.labels.now p 0 = search rules in rw e (pixel (goal.at.put_pairs-requires-clause-first c).Start p l).0)
 
-pub put_pairs-requires-2 : goal.put_pairs-requires-2
-put_pairs-requires-2 c = let d = (goal.at.put_pairs-requires-2 c).Start in record {
-  room = omega (arith, exact d, c.put_all.auto.destination, c.put_pairs.auto.destination);
-  first = λ k l. (search rules, λ x q. let e : x ≡ slot_number c.args.clusters.table.now k 0 = search rules in rw e (slot d k l).0);
-  second = λ k l. (search rules, λ x q. let e : x ≡ slot_number c.args.clusters.table.now k 1 = search rules in rw e (slot d k l).1);
-}
+pub put_pairs-requires-clause-second : goal.put_pairs-requires-clause-second
+put_pairs-requires-clause-second c = λ p l. (search rules, λ x q. let e : x ≡ get_or c.args.clusters.links.now p 0 = search rules in rw e (pixel (goal.at.put_pairs-requires-clause-second c).Start p l).1)
 
-pub put_all-requires-2 : goal.put_all-requires-2
-put_all-requires-2 c = record {
-  room = omega (arith, exact (goal.at.put_all-requires-2 c).Start, c.put_all.auto.destination, c.put_pairs.auto.destination, c.put_pairs-2.auto.destination, c.requires.can_store.outputs-fit, length-take {A = ℕ});
-  small = (small (goal.at.put_all-requires-2 c).Start).outputs;
-}
+pub put_pairs-requires-2-clause-first : goal.put_pairs-requires-2-clause-first
+put_pairs-requires-2-clause-first c = λ k l.
+    let i : k < length c.as_chunks.result.0.now = omega (arith, c.as_chunks.ensures.front_len, c.requires.can_store.table_fits) in (
+      search rules,
+      λ x q. let e : x ≡ get_or (get_or c.as_chunks.result.0.now k []) 0 0 = search rules in
+          rw (e, read c.args.clusters.table.now 0 (omega arith) c.as_chunks.ensures.front c.as_chunks.ensures.front_len i) (slot (goal.at.put_pairs-requires-2-clause-first c).Start k l).0,
+    )
+
+pub put_pairs-requires-2-clause-second : goal.put_pairs-requires-2-clause-second
+put_pairs-requires-2-clause-second c = λ k l.
+    let i : k < length c.as_chunks.result.0.now = omega (arith, c.as_chunks.ensures.front_len, c.requires.can_store.table_fits) in (
+      search rules,
+      λ x q. let e : x ≡ get_or (get_or c.as_chunks.result.0.now k []) 1 0 = search rules in
+          rw (e, read c.args.clusters.table.now 1 (omega arith) c.as_chunks.ensures.front c.as_chunks.ensures.front_len i) (slot (goal.at.put_pairs-requires-2-clause-second c).Start k l).1,
+    )
+
+pub put_all-requires-2-clause-exact : goal.put_all-requires-2-clause-exact
+put_all-requires-2-clause-exact c = omega (arith, exact (goal.at.put_all-requires-2-clause-exact c).Start, c.split_at_mut-of_sheet.ensures.back_len, c.split_at_mut-of_pixels.ensures.back_len, c.split_at_mut-of_slots.ensures.back_len, c.requires.can_store.outputs-fit, length-take {A = ℕ})
 
 pub returns : goal.returns
 unfolding pixel_numbers slot_numbers
 returns c = let s = c.args.clusters in
-    stored-put s.size.w s.size.h _ _ _ _ s.counts.n s.counts.m _ _ _ _ _ c.requires.exact c.put_all.ensures
-    (c.put_pairs.ensures (λ p. get_or c.args.labels.now p 0) (λ p. get_or s.links.now p 0) (λ p x l q. search rules) (λ p x l q. search rules))
-    (c.put_pairs-2.ensures (λ k. slot_number s.table.now k 0) (λ k. slot_number s.table.now k 1) (λ k x l q. search rules) (λ k x l q. search rules))
-    c.put_all-2.ensures
+    let e = c.put_pairs.ensures (λ p. get_or c.args.labels.now p 0) (λ p. get_or s.links.now p 0) (λ p x l q. search rules) (λ p x l q. search rules) in
+    let f = c.put_pairs-2.ensures (λ k. slot_number s.table.now k 0) (λ k. slot_number s.table.now k 1)
+    (λ k x l q. let i : k < length c.as_chunks.result.0.now = omega (arith, c.as_chunks.ensures.front_len, c.requires.can_store.table_fits) in
+    let e : x ≡ get_or (get_or c.as_chunks.result.0.now k []) 0 0 = search rules in e ∙ read s.table.now 0 (omega arith) c.as_chunks.ensures.front c.as_chunks.ensures.front_len i)
+    (λ k x l q. let i : k < length c.as_chunks.result.0.now = omega (arith, c.as_chunks.ensures.front_len, c.requires.can_store.table_fits) in
+    let e : x ≡ get_or (get_or c.as_chunks.result.0.now k []) 1 0 = search rules in e ∙ read s.table.now 1 (omega arith) c.as_chunks.ensures.front c.as_chunks.ensures.front_len i) in
+    cc (c.put_all.ensures, e, f, c.put_all-2.ensures, stored-parts s.size.w s.size.h c.args.labels.now s.links.now s.table.now s.outputs.now s.counts.n s.counts.m)
