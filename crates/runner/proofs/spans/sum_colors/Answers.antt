@@ -13,6 +13,7 @@ use Rattle.rules.proofs.Spans.{sum_fits}
 use Rattle.rules.specs.Code.Bounds.{count_bound}
 use Rattle.rules.specs.Calls.{sum_call}
 use Rattle.color.specs.Colors.{sum_of}
+use Rattle.color.proofs.Chunks.{in_chunk}
 use Rattle.runner.specs.Code.Slots.{Adds}
 use Rattle.runner.proofs.Slots.{adds-taken}
 use Rattle.runner.proofs.spans.sum_colors.Goals as goal
@@ -34,22 +35,14 @@ more : (image : List ℕ) (j : ℕ) {v : ColorSum} {c : Color} → v ≡ sum_fro
 unfolding sum_from
 more image j {v} {c} e f = subst (λ n. v ⊕ sum_of_one c ≡ sum_from image 0 n) (sym (add-one j)) (ap₂ (λ a b. a ⊕ sum_of_one b) e f)
 
--- a byte of a chunk
-chunk-byte : (k j c : ℕ) (xs : List ℕ) → j < k → c < 4 → get_or (get_or (first_chunks 4 k xs) j []) c 0 ≡ get_or xs (4 * j + c) 0
-chunk-byte zero j c xs l d = absurd (omega arith)
-chunk-byte (suc k) zero c xs l d = let e : 4 * 0 + c ≡ c = omega arith in rw e (get_or-take 4 xs c 0 d)
-chunk-byte (suc k) (suc j) c xs l d =
-    let e : 4 + (4 * j + c) ≡ 4 * suc j + c = omega arith in
-    chunk-byte k j c (drop 4 xs) (omega arith) d ∙ get_or-drop 4 xs (4 * j + c) 0 ∙ ap (λ i. get_or xs i 0) e
-
 -- chunk j is pixel j
 chunk-pixel : (k j : ℕ) (xs : List ℕ) {chunks : List (List ℕ)} → chunks ≡ first_chunks 4 k xs → j < k → rgba (get_or (get_or chunks j []) 0 0) (get_or (get_or chunks j []) 1 0) (get_or (get_or chunks j []) 2 0) (get_or (get_or chunks j []) 3 0) ≡ pixel xs (0 + j)
 unfolding pixel
 chunk-pixel k j xs e l =
     let z : 0 + j ≡ j = omega arith in
-    let a : 4 * j + 0 ≡ 4 * j = omega arith in
-    let r : get_or (get_or (first_chunks 4 k xs) j []) 0 0 ≡ get_or xs (4 * j) 0 = chunk-byte k j 0 xs l (omega arith) ∙ ap (λ i. get_or xs i 0) a in
-    rw (e, z, r, chunk-byte k j 1 xs l (omega arith), chunk-byte k j 2 xs l (omega arith), chunk-byte k j 3 xs l (omega arith)) refl
+    let byte : (i p : ℕ) → i < 4 → 4 * j + i ≡ p → get_or (get_or (first_chunks 4 k xs) j []) i 0 ≡ get_or xs p 0 = λ i p m s. in_chunk 4 k xs j i p [] 0 l m s in
+    let r : get_or (get_or (first_chunks 4 k xs) j []) 0 0 ≡ get_or xs (4 * j) 0 = byte 0 (4 * j) (omega arith) (omega arith) in
+    rw (e, z, r, byte 1 (4 * j + 1) (omega arith) refl, byte 2 (4 * j + 2) (omega arith) refl, byte 3 (4 * j + 3) (omega arith) refl) refl
 
 pub loop-r-init : goal.loop-r-init
 unfolding sum_from
