@@ -2,7 +2,6 @@
 ghost use Rattle.std.specs.Prelude.{◌≡◌, true, List, ℕ, ◌+◌, ◌*◌, ◌≤◌, ◌<◌, length};
 ghost use Rattle.rules.specs.Run.{stage1, stage2};
 ghost use Rattle.rules.specs.Layout.{slot_width, InTable};
-ghost use Rattle.rules.specs.Code.Bounds.{count_bound};
 ghost use Rattle.runner.specs.Types.{config_of};
 ghost use Rattle.runner.specs.Code.Lists.{of_work, of_slots, of_input, SameLists, SameWork};
 ghost use Rattle.runner.specs.Code.Queue.{SameQueue};

@@ -1,6 +1,4 @@
 use Rattle.std.proofs.Common.{rules, sym}
-use mathlib.Core.Path.{◌≡◌}
-use Prim.Native.Nat.{ℕ, ◌+◌, ◌-◌, ◌<◌}
 use native.Mathlib.Omega.{arith}
 use Rattle.runner.specs.Code.Lists.{of_input}
 use Rattle.runner.specs.Code.Stage2.{Chosen}
@@ -8,10 +6,6 @@ use Rattle.runner.proofs.Starting.{queue-fits, started}
 use Rattle.runner.proofs.Turning.{slots-are, some-slots, chooses, ends, turns-left}
 use Rattle.runner.proofs.stage2.stage_2.Goals as goal
 use Rattle.runner.proofs.stage2.stage_2.Goals.{In-Some}
-
--- one turn fewer is left
-fewer : {l m n : ℕ} → m ≡ n + 1 → n < l → l - m < l - n
-fewer e f = omega arith
 
 pub invariant_of-work : goal.invariant_of-work
 invariant_of-work c = let f = queue-fits c.args.input.now.given c.requires.1 in record { fits = f.0; small = f.1 }
@@ -44,7 +38,7 @@ pub turn-t-requires-clause-chosen : goal.turn-t-requires-clause-chosen
 turn-t-requires-clause-chosen c = chosen (goal.at.turn-t-requires-clause-chosen c).In-Some
 
 pub loop-e-smaller : goal.loop-e-smaller
-loop-e-smaller c = fewer c.turn-t.ensures.turns (turns-left c.args.input.now.given c.loop-e.invariant.running.some.1 (chosen (goal.at.loop-e-smaller c).In-Some))
+loop-e-smaller c = omega (arith, c.turn-t.ensures.turns, turns-left c.args.input.now.given c.loop-e.invariant.running.some.1 (chosen (goal.at.loop-e-smaller c).In-Some))
 
 pub loop-e-preserved : goal.loop-e-preserved
 loop-e-preserved c = let i = c.loop-e.invariant.running in
