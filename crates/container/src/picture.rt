@@ -54,7 +54,7 @@ impl Sheet<'_> {
         ensures { let s = self.entry in
             picture.new ≡ uniform (average (rules.slot_residue s.table.now k)) s.size }
     {
-        fill::fill(picture, self.size as usize, self.average(k));
+        fill::fill(picture, self.average(k));
     }
 
     // Paints the entries over zeros.

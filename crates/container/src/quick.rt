@@ -42,23 +42,26 @@ struct Lanes {
 impl Numbered<'_> {
     // The lane; where it has no pixel left, it takes the next entry that has pixels, from the last of `left` entries
     // down.
+    #[tactic(auto, using(crate::proofs::Passes::takes))]
     fn filled(self, lane: Lane) -> Lane
         requires { lane.left ≤ self.sheet.m }
         ensures left { result.left ≤ lane.left }
         ensures passes { let s = self.entry.sheet in LanePasses s.table.now s.outputs.now lane result }
     {
-        let Lane {
-            mut at,
-            mut count,
-            mut left,
-        } = lane;
-        while (count == 0) & (0 < left) {
-            left -= 1;
-            let list = self.sheet.list(self.sheet.outputs[left as usize]);
-            at = list.first;
-            count = list.count;
+        if lane.count != 0 {
+            return lane;
         }
-        Lane { at, count, left }
+        for left in (0..lane.left).rev() {
+            let list = self.sheet.list(self.sheet.outputs[left as usize]);
+            if list.count != 0 {
+                return Lane {
+                    at: list.first,
+                    count: list.count,
+                    left,
+                };
+            }
+        }
+        Lane { left: 0, ..lane }
     }
 
     // The four lanes, each filled.

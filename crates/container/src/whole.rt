@@ -14,13 +14,6 @@ pub(crate) struct Walk<const N: usize> {
     pub(crate) moved: u32,
 }
 
-// Where the walks from first, q and r stop, and how many links each has gone.
-#[derive(Clone, Copy)]
-struct Ends {
-    at: [u32; 3],
-    moved: [u32; 3],
-}
-
 impl Sheet<'_> {
     // Whether a walk stops at v: at q and r, and where there is no pixel.
     fn walk_ends(self, v: u32, q: u32, r: u32) -> bool
@@ -57,14 +50,14 @@ impl Sheet<'_> {
     }
 
     // Walks from first, q and r: all three, then any two of which neither has stopped, then each alone.
-    fn walks(self, first: u32, q: u32, r: u32) -> Ends
+    fn walks(self, first: u32, q: u32, r: u32) -> (Walk<1>, Walk<1>, Walk<1>)
         requires q { (0 < q) × (q ≤ self.size) }
         requires r { (0 < r) × (r ≤ self.size) }
-        ensures moved { (i : ℕ) → i < 3 → get_or result.moved i 0 ≤ 5 * self.entry.size }
-        ensures first { let s = self.entry in
-            Leads s.size s.links.now first (get_or result.moved 0 0) (get_or result.at 0 0) }
-        ensures q { let s = self.entry in Leads s.size s.links.now q (get_or result.moved 1 0) (get_or result.at 1 0) }
-        ensures r { let s = self.entry in Leads s.size s.links.now r (get_or result.moved 2 0) (get_or result.at 2 0) }
+        ensures moved { let most = 5 * self.entry.size in
+            (result.0.moved ≤ most) × (result.1.moved ≤ most) × (result.2.moved ≤ most) }
+        ensures first { let s = self.entry in Leads s.size s.links.now first result.0.moved (get_or result.0.at 0 0) }
+        ensures q { let s = self.entry in Leads s.size s.links.now q result.1.moved (get_or result.1.at 0 0) }
+        ensures r { let s = self.entry in Leads s.size s.links.now r result.2.moved (get_or result.2.at 0 0) }
     {
         let mut on = [q, r];
         self.follow(&mut on);
@@ -77,14 +70,20 @@ impl Sheet<'_> {
         let x = self.walk(q, r, [w.at[0]], size);
         let y = self.walk(q, r, [v.at[0]], size);
         let z = self.walk(q, r, [w.at[1]], size);
-        Ends {
-            at: [x.at[0], y.at[0], z.at[0]],
-            moved: [
-                t.moved + u.moved + w.moved + x.moved,
-                1 + t.moved + u.moved + v.moved + y.moved,
-                1 + t.moved + v.moved + w.moved + z.moved,
-            ],
-        }
+        (
+            Walk {
+                moved: t.moved + u.moved + w.moved + x.moved,
+                ..x
+            },
+            Walk {
+                moved: 1 + t.moved + u.moved + v.moved + y.moved,
+                ..y
+            },
+            Walk {
+                moved: 1 + t.moved + v.moved + w.moved + z.moved,
+                ..z
+            },
+        )
     }
 
     // True only if size links from first lead to 0: from first to q, to r and to 0, or to r, to q and to 0.
@@ -93,16 +92,15 @@ impl Sheet<'_> {
         requires r { (0 < r) × (r ≤ self.size) }
         ensures { let s = self.entry in result ≡ true → Leads s.size s.links.now first s.size 0 }
     {
-        let ends = self.walks(first, q, r);
-        let [a, b, c] = ends.at;
-        let [na, nb, nc] = ends.moved;
-        if na + nb + nc != self.size {
+        let (x, y, z) = self.walks(first, q, r);
+        if x.moved + y.moved + z.moved != self.size {
             return false;
         }
-        if (a == q) & (b == r) & (c == 0) {
+        let ends = [x.at[0], y.at[0], z.at[0]];
+        if ends == [q, r, 0] {
             return true;
         }
-        (a == r) & (c == q) & (b == 0)
+        ends == [r, 0, q]
     }
 }
 
