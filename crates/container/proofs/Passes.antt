@@ -8,6 +8,7 @@ use borrow.Author.Tests.{lt-ltb, le-leb}
 use lib.Dec.{T}
 use lib.ListN.{length, get_or, set}
 use Rattle.std.proofs.Common.{get_or-set_same, get_or-set_other}
+use Rattle.std.specs.List.{All}
 use Rattle.rules.specs.Color.{has_average}
 use Rattle.rules.specs.Paint.{reads, slot_number, slot_residue, entry_answer, entries_answer}
 use Rattle.rules.proofs.Facts.{is_true}
@@ -57,10 +58,14 @@ entry_zero size n links table k p r =
       is_true (reads size links (slot_number table k first_pixel_place) (slot_number table k pixel_count_place)) r,
     )
 
--- entries that pass both answer 0
-pub quick-zero : (size n : ℕ) (links table outputs : List ℕ) (m : ℕ) → ((i : ℕ) → i < m → NumbersPass size n table (get_or outputs i 0))
+quick_to : (size n : ℕ) (links table outputs : List ℕ) (m : ℕ) → ((i : ℕ) → i < m → NumbersPass size n table (get_or outputs i 0))
     → ((i : ℕ) → i < m → ListPasses size links table (get_or outputs i 0)) → entries_answer size n links table outputs m ≡ 0
 unfolding entries_answer
-quick-zero size n links table outputs zero p r = refl
-quick-zero size n links table outputs (suc i) p r =
-    rw (entry_zero size n links table _ (p i (omega arith)) (r i (omega arith))) (quick-zero size n links table outputs i (λ j l. p j (omega arith)) (λ j l. r j (omega arith)))
+quick_to size n links table outputs zero p r = refl
+quick_to size n links table outputs (suc i) p r =
+    rw (entry_zero size n links table _ (p i (omega arith)) (r i (omega arith))) (quick_to size n links table outputs i (λ j l. p j (omega arith)) (λ j l. r j (omega arith)))
+
+-- entries that pass both answer 0
+pub quick-zero : (size n : ℕ) (links table outputs : List ℕ) → All (NumbersPass size n table) outputs
+    → ((i : ℕ) → i < length outputs → ListPasses size links table (get_or outputs i 0)) → entries_answer size n links table outputs (length outputs) ≡ 0
+quick-zero size n links table outputs p r = quick_to size n links table outputs (length outputs) (λ i l. p i 0 l) r

@@ -1,7 +1,6 @@
 // Whether the last entry's list is all pixels of the sheet: three stretches of it are walked at once, so that no link
 // waits for another's.
 ghost use Rattle.std.specs.Prelude.{◌≡◌, true, false, ℕ, ◌-◌, ◌*◌, ◌≤◌, ◌<◌, length, get_or};
-ghost use Rattle.rules.specs.Paint.{slot_number};
 ghost use Rattle.container.specs.Code.Leads.{Leads};
 
 use crate::checked::Sheet;
@@ -105,31 +104,30 @@ impl Sheet<'_> {
 }
 
 impl Numbered<'_> {
-    // The first pixel of entry m - back, plus one, where there are three entries and it is on the sheet, else other.
-    fn stretch_start(self, back: u32, other: u32) -> u32
+    // The first pixel of the entry back from the end, plus one, where there are three entries and it is on the sheet,
+    // else other.
+    fn stretch_start(self, back: usize, other: u32) -> u32
         requires back { (0 < back) × (back ≤ 3) }
         requires other { (0 < other) × (other ≤ self.sheet.size) }
         ensures { (0 < result) × (result ≤ self.entry.sheet.size) }
     {
         let sheet = self.sheet;
-        if sheet.m < 3 {
+        let m = sheet.outputs.len();
+        if m < 3 {
             return other;
         }
-        let v = sheet.list(sheet.outputs[(sheet.m - back) as usize]).first;
+        let v = sheet.list(sheet.outputs[m - back]).first;
         if (v == 0) | (sheet.size < v) {
             return other;
         }
         v
     }
 
-    // True only if size links from the first pixel of the last entry lead to 0.
-    pub(crate) fn is_all(self) -> bool
-        requires { 0 < self.sheet.m }
-        ensures { let s = self.entry.sheet in result ≡ true
-            → Leads s.size s.links.now (slot_number s.table.now (get_or s.outputs.now (s.m - 1) 0) 0) s.size 0 }
+    // True only if size links from first lead to 0.
+    pub(crate) fn is_all(self, first: u32) -> bool
+        ensures { let s = self.entry.sheet in result ≡ true → Leads s.size s.links.now first s.size 0 }
     {
         let sheet = self.sheet;
-        let first = sheet.list(sheet.outputs[(sheet.m - 1) as usize]).first;
         let q = self.stretch_start(2, sheet.size / 8 + 1);
         let r = self.stretch_start(3, sheet.size / 2 + 1);
         sheet.is_whole(first, q, r)
