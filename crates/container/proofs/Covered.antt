@@ -5,7 +5,7 @@ use mathlib.Core.Bool.{Bool, true}
 use mathlib.Core.List.{List, ◌∷◌}
 use Prim.Native.Nat.{ℕ, zero, suc, ◌+◌, ◌*◌, ◌/◌, ◌%◌, ◌≤◌, ◌<◌}
 use native.Mathlib.Decide.{ℕ_discrete}
-use native.Mathlib.Nat.{div-add-mod, mod-lt}
+use native.Mathlib.Nat.{div-add-mod, mod-lt, not-suc-le-zero}
 use native.Mathlib.Omega.{arith}
 use lib.Dec.{T, ltb, lt→ltb, ltb→lt}
 use lib.ListN.{length, get_or}
@@ -44,17 +44,23 @@ split : (P : ℕ → Type 0) → ((p j : ℕ) → j < 4 → P (4 * p + j)) → (
 split P f i = subst P (div-add-mod i 4) (f (i / 4) (i % 4) (mod-lt i (omega arith)))
 
 -- the first n pixels have colour c
-abbrev pub Begins : ℕ → Color → List ℕ → Type 0
-Begins n c l = (p : ℕ) → p < n → pixel l p ≡ c
+pub record Begins (n : ℕ) (c : Color) (l : List ℕ) : Type 0 where
+  pub each : (p : ℕ) → p < n → pixel l p ≡ c
+
+pub begins-none : (c : Color) (l : List ℕ) → Begins 0 c l
+begins-none c l = record { each = λ p b. absurd (not-suc-le-zero b) }
 
 pub begins-more : (c : Color) (n : ℕ) (l : List ℕ) → 4 * n + 3 < length l → Begins n c l → Begins (n + 1) c (paint_pixel c n l)
-begins-more c n l h f p b = elim (ℕ_discrete p n) [ yes e ↦ rw e (pixel-same c n l h) | no d ↦ pixel-other c n l p d ∙ f p (omega arith) ]
+begins-more c n l h f = record { each = λ p b. elim (ℕ_discrete p n) [ yes e ↦ rw e (pixel-same c n l h) | no d ↦ pixel-other c n l p d ∙ f.each p (omega arith) ] }
 
 pub begins-all : (c : Color) (size : ℕ) (l : List ℕ) → length l ≡ 4 * size → Begins size c l → l ≡ uniform c size
 begins-all c size l e f =
     ext_get_or 0 l (uniform c size) (e ∙ sym (filled-length c size))
     (split (λ i. i < length l → get_or l i 0 ≡ get_or (uniform c size) i 0)
-    (λ p j b h. let m : p < size = omega arith in byte l p j b ∙ ap (λ x. get_or (bytes_of x) j 0) (f p m) ∙ sym (filled_at c size p j m b)))
+    (λ p j b h. let m : p < size = omega arith in byte l p j b ∙ ap (λ x. get_or (bytes_of x) j 0) (f.each p m) ∙ sym (filled_at c size p j m b)))
+
+-- a picture is filled pixel by pixel
+pub ruleset fills = (begins-none, begins-more, begins-all)
 
 -- ---- a list of all pixels
 
@@ -124,4 +130,4 @@ pub whole-fill : (size : ℕ) (links : List ℕ) (first : ℕ) (c : Color) (pict
 unfolding pixels
 whole-fill size links first c picture e a =
     let ps = walk (λ p. get_or links p 0) first size in
-    begins-all c size (each ps (paint_pixel c) picture) (each-length c ps picture ∙ e) (λ p l. each_in c p ps picture (omega arith) (every size links first a p l))
+    begins-all c size (each ps (paint_pixel c) picture) (each-length c ps picture ∙ e) (record { each = λ p l. each_in c p ps picture (omega arith) (every size links first a p l) })

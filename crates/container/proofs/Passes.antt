@@ -8,6 +8,7 @@ use borrow.Author.Tests.{lt-ltb, le-leb}
 use lib.Dec.{T}
 use lib.ListN.{length, get_or, set}
 use Rattle.std.proofs.Common.{get_or-set_same, get_or-set_other}
+use Rattle.std.specs.List.{All}
 use Rattle.rules.specs.Color.{has_average}
 use Rattle.rules.specs.Paint.{reads, slot_number, slot_residue, entry_answer, entries_answer}
 use Rattle.rules.proofs.Facts.{is_true}
@@ -18,6 +19,20 @@ use Rattle.container.specs.declared.quick.Lane.{Lane}
 use Rattle.container.specs.declared.quick.Lanes.{Lanes}
 use Rattle.container.proofs.Leads.{leads-reads}
 
+-- a lane with no pixel takes the entry before place n
+pub lane-takes : (table outputs : List ℕ) (x y : Lane) (at n : ℕ) → LanePasses table outputs x (record { at = at; count = 0; left = n }) → 0 < n → y.left ≡ n - 1
+    → ((size : ℕ) (links : List ℕ) → T (reads size links y.at y.count) → ListPasses size links table (get_or outputs (n - 1) 0)) → LanePasses table outputs x y
+lane-takes table outputs x y at n h l e f = record {
+  rest = λ size links r. h.rest size links tt;
+  taken = λ size links r m p i b k. elim (ℕ_discrete i (n - 1)) [ yes z ↦ rw z (f size links r) | no d ↦ h.taken size links tt m p i (omega arith) k ];
+}
+
+-- and so it does where that has none either
+pub lane-passes : (table outputs : List ℕ) (x : Lane) → LanePasses table outputs x x
+lane-passes table outputs x = record { rest = λ size links r. r; taken = λ size links r m p. p }
+
+pub ruleset takes = (lane-takes, lane-passes)
+
 -- lane i is filled
 pub filled-turn : (size : ℕ) (links table outputs : List ℕ) (m i : ℕ) (x : Lanes) (y : Lane) → length x.at ≡ 4 → length x.count ≡ 4 → i < 4
     → LanePasses table outputs (record { at = get_or x.at i 0; count = get_or x.count i 0; left = x.left }) y
@@ -25,8 +40,8 @@ pub filled-turn : (size : ℕ) (links table outputs : List ℕ) (m i : ℕ) (x :
 filled-turn size links table outputs m i x y e f l h p r =
     let a : i < length x.at = omega arith in
     let b : i < length x.count = omega arith in
-    let q = h size links (rw (get_or-set_same, get_or-set_same) at (r i l)) in
-    q.1 m (p (λ j k. elim (ℕ_discrete j i) [ yes z ↦ rw z q.0 | no d ↦ rw (get_or-set_other, get_or-set_other) at (r j k) ]))
+    let q = rw (get_or-set_same, get_or-set_same) at (r i l) in
+    h.taken size links q m (p (λ j k. elim (ℕ_discrete j i) [ yes z ↦ rw z (h.rest size links q) | no d ↦ rw (get_or-set_other, get_or-set_other) at (r j k) ]))
 
 -- what is left of a list after n links is read with it
 pub walked-reads : (size : ℕ) (links : List ℕ) (at count n to : ℕ) → n ≤ count → Leads size links at n to → T (reads size links to (count - n)) → T (reads size links at count)
@@ -43,10 +58,14 @@ entry_zero size n links table k p r =
       is_true (reads size links (slot_number table k first_pixel_place) (slot_number table k pixel_count_place)) r,
     )
 
--- entries that pass both answer 0
-pub quick-zero : (size n : ℕ) (links table outputs : List ℕ) (m : ℕ) → ((i : ℕ) → i < m → NumbersPass size n table (get_or outputs i 0))
+quick_to : (size n : ℕ) (links table outputs : List ℕ) (m : ℕ) → ((i : ℕ) → i < m → NumbersPass size n table (get_or outputs i 0))
     → ((i : ℕ) → i < m → ListPasses size links table (get_or outputs i 0)) → entries_answer size n links table outputs m ≡ 0
 unfolding entries_answer
-quick-zero size n links table outputs zero p r = refl
-quick-zero size n links table outputs (suc i) p r =
-    rw (entry_zero size n links table _ (p i (omega arith)) (r i (omega arith))) (quick-zero size n links table outputs i (λ j l. p j (omega arith)) (λ j l. r j (omega arith)))
+quick_to size n links table outputs zero p r = refl
+quick_to size n links table outputs (suc i) p r =
+    rw (entry_zero size n links table _ (p i (omega arith)) (r i (omega arith))) (quick_to size n links table outputs i (λ j l. p j (omega arith)) (λ j l. r j (omega arith)))
+
+-- entries that pass both answer 0
+pub quick-zero : (size n : ℕ) (links table outputs : List ℕ) → All (NumbersPass size n table) outputs
+    → ((i : ℕ) → i < length outputs → ListPasses size links table (get_or outputs i 0)) → entries_answer size n links table outputs (length outputs) ≡ 0
+quick-zero size n links table outputs p r = quick_to size n links table outputs (length outputs) (λ i l. p i 0 l) r

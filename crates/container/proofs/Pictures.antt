@@ -3,11 +3,17 @@ use mathlib.Core.Path.{◌≡◌, sym, ap, ◌∙◌}
 use mathlib.Core.List.{List}
 use Prim.Native.Nat.{ℕ, ◌+◌, ◌*◌, ◌-◌, ◌≤◌, ◌<◌}
 use native.Mathlib.Omega.{arith}
-use lib.ListN.{get_or, replicate, length-replicate}
-use Rattle.rules.specs.Base.{times_back}
+use lib.ListN.{length, get_or, take, replicate, length-replicate}
+use lib.Seq.{take-length}
+use Rattle.std.proofs.lemmas.List.{get_or-take}
+use Rattle.rules.specs.Base.{each_back}
 use Rattle.rules.specs.Color.{average}
 use Rattle.rules.specs.Paint.{Painted, slot_number, slot_residue, slot_pixels, entries_answer, paint_slot, paint_entries, painting}
 use Rattle.rules.specs.Layout.{first_pixel_place, pixel_count_place}
+use Rattle.image.specs.declared.Clusters.{Clusters}
+use Rattle.container.specs.declared.checked.Sheet.{Sheet}
+use Rattle.container.specs.Code.Checked as of_sheet
+use Rattle.container.specs.Code.Checked.{IsSheetOf}
 use Rattle.container.specs.Code.Uniform.{uniform}
 use Rattle.container.specs.Code.Covered.{Whole}
 use Rattle.container.specs.Code.Quick.{ListPasses}
@@ -15,21 +21,21 @@ use Rattle.refusal.specs.Refusal.{number_of}
 use Rattle.refusal.specs.declared.Refusal.{Refusal}
 use Rattle.refusal.proofs.Laws.{refused-number}
 use Rattle.container.proofs.Leads.{leads-reads}
-use Rattle.container.proofs.Entries.{back-turn}
+use Rattle.container.proofs.Entries.{back-turn, back-each, entries-cut, times-cut}
 use Rattle.container.proofs.Covered.{whole-fill}
 
 -- painting the last entry, where it is all pixels, fills the picture
-whole-slot : (size : ℕ) (links table outputs : List ℕ) (m : ℕ) → Whole size links table outputs m
-    → paint_slot links table (get_or outputs (m - 1) 0) (replicate (4 * size) 0) ≡ uniform (average (slot_residue table (get_or outputs (m - 1) 0))) size
+whole-slot : (size : ℕ) (links table entries : List ℕ) → Whole size links table entries
+    → (let k = get_or entries (length entries - 1) 0 in paint_slot links table k (replicate (4 * size) 0) ≡ uniform (average (slot_residue table k)) size)
 unfolding paint_slot slot_pixels
-whole-slot size links table outputs m W = rw W.count (whole-fill size links _ _ (replicate (4 * size) 0) (length-replicate (4 * size) 0) W.leads)
+whole-slot size links table entries W = rw W.count (whole-fill size links _ _ (replicate (4 * size) 0) (length-replicate (4 * size) 0) W.leads)
 
 -- and its list passes
-pub whole-passes : {size : ℕ} {links table outputs : List ℕ} {m : ℕ} → Whole size links table outputs m → (i : ℕ) → m - 1 ≤ i → i < m → ListPasses size links table (get_or outputs i 0)
-whole-passes {size} {links} {table} {outputs} {m} W i l b =
-    let e : i ≡ m - 1 = omega arith in
-    let z : slot_number table (get_or outputs (m - 1) 0) pixel_count_place ≡ size + 0 = W.count ∙ omega arith in
-    rw (e, z) (leads-reads size links size 0 (slot_number table (get_or outputs (m - 1) 0) first_pixel_place) 0 W.leads tt)
+pub whole-passes : {size : ℕ} {links table entries : List ℕ} → Whole size links table entries → (i : ℕ) → length entries - 1 ≤ i → i < length entries → ListPasses size links table (get_or entries i 0)
+whole-passes {size} {links} {table} {entries} W i l b =
+    let e : i ≡ length entries - 1 = omega arith in
+    let z : slot_number table (get_or entries (length entries - 1) 0) pixel_count_place ≡ size + 0 = W.count ∙ omega arith in
+    rw (e, z) (leads-reads size links size 0 (slot_number table (get_or entries (length entries - 1) 0) first_pixel_place) 0 W.leads tt)
 
 -- a refused entry leaves the picture
 pub refused : (size n m : ℕ) (links table outputs given : List ℕ) (r : Refusal) → number_of r ≡ entries_answer size n links table outputs m
@@ -37,19 +43,29 @@ pub refused : (size n m : ℕ) (links table outputs given : List ℕ) (r : Refus
 unfolding painting
 refused size n m links table outputs given r e = rw (← e, refused-number r)
 
-module _ (size n m : ℕ) (links table outputs given : List ℕ) (e : entries_answer size n links table outputs m ≡ 0) where
-  abbrev over : ℕ → List ℕ → List ℕ
-  over = λ i. paint_slot links table (get_or outputs i 0)
+-- all entries over zeros
+pub over_zeros : (size n : ℕ) (links table entries given : List ℕ) → entries_answer size n links table entries (length entries) ≡ 0
+    → (p : List ℕ) → p ≡ each_back entries (paint_slot links table) (replicate (4 * size) 0) → ◌≡◌ {A = Painted} (record { answer = 0; picture = p }) (painting size n (length entries) links table entries given)
+unfolding painting paint_entries
+over_zeros size n links table entries given e p f = rw (e, f, back-each (length entries) entries (paint_slot links table) (replicate (4 * size) 0) (omega arith), take-length entries)
 
-  -- all entries over zeros
-  pub over_zeros : (p : List ℕ) → p ≡ times_back m over (replicate (4 * size) 0) → ◌≡◌ {A = Painted} (record { answer = 0; picture = p }) (painting size n m links table outputs given)
-  unfolding painting paint_entries
-  over_zeros p f = rw (e, f)
+-- the last entry, which is all pixels, and the others over it
+pub over_last : (size n : ℕ) (links table entries given : List ℕ) → entries_answer size n links table entries (length entries) ≡ 0 → Whole size links table entries
+    → (p q : List ℕ) → q ≡ uniform (average (slot_residue table (get_or entries (length entries - 1) 0))) size → p ≡ each_back (take (length entries - 1) entries) (paint_slot links table) q
+    → ◌≡◌ {A = Painted} (record { answer = 0; picture = p }) (painting size n (length entries) links table entries given)
+over_last size n links table entries given e W p q f g =
+    let paint = paint_slot links table in
+    over_zeros size n links table entries given e p (g ∙ ap (each_back (take (length entries - 1) entries) paint) (f ∙ sym (whole-slot size links table entries W)) ∙ sym (back-turn entries paint (replicate (4 * size) 0) W.some))
 
-  -- the last entry, which is all pixels, and the others over it
-  pub over_last : Whole size links table outputs m → (p q : List ℕ) → q ≡ uniform (average (slot_residue table (get_or outputs (m - 1) 0))) size → p ≡ times_back (m - 1) over q
-      → ◌≡◌ {A = Painted} (record { answer = 0; picture = p }) (painting size n m links table outputs given)
-  over_last W p q f g = over_zeros p (g ∙ ap (times_back (m - 1) over) (f ∙ sym last) ∙ sym (back-turn m over (replicate (4 * size) 0) W.some))
-    where
-      last : paint_slot links table (get_or outputs (m - 1) 0) (replicate (4 * size) 0) ≡ uniform (average (slot_residue table (get_or outputs (m - 1) 0))) size
-      last = whole-slot size links table outputs m W
+-- painting reads no output beyond the first m
+painting-cut : (size n m : ℕ) (links table outputs given : List ℕ) → painting size n m links table (take m outputs) given ≡ painting size n m links table outputs given
+unfolding painting paint_entries
+painting-cut size n m links table outputs given =
+    let same : (i : ℕ) → i < m → get_or (take m outputs) i 0 ≡ get_or outputs i 0 = λ i l. get_or-take m outputs i 0 l in
+    rw (entries-cut size n links table m (take m outputs) outputs same, times-cut (paint_slot links table) m (take m outputs) outputs same (replicate (4 * size) 0))
+
+-- so painting the sheet of the clusters is painting them
+pub sheet-painting : (a : Clusters) (bytes : ℕ) (s : Sheet) (given : List ℕ) → IsSheetOf a bytes s
+    → of_sheet.painting s given ≡ painting (a.size.w * a.size.h) a.counts.n a.counts.m a.links.now a.table.now a.outputs.now given
+sheet-painting a bytes s given h =
+    rw (h.m, h.outputs, h.size, h.n, h.links, h.table) (painting-cut (a.size.w * a.size.h) a.counts.n a.counts.m a.links.now a.table.now a.outputs.now given)

@@ -2,7 +2,7 @@
 use mathlib.Core.Path.{◌≡◌, refl, sym, ap, ◌∙◌, subst}
 use mathlib.Core.Logic.{◌≢◌}
 use mathlib.Core.List.{List, [], ◌∷◌, ◌++◌}
-use Prim.Native.Nat.{ℕ, zero, suc, ◌+◌, ◌*◌, ◌-◌, ◌≤◌, ◌<◌}
+use Prim.Native.Nat.{ℕ, zero, suc, ◌+◌, ◌*◌, ◌-◌, ◌/◌, ◌≤◌, ◌<◌}
 use native.Mathlib.Decide.{ℕ_discrete}
 use native.Mathlib.Omega.{arith}
 use lib.Dec.{T}
@@ -125,6 +125,10 @@ module _ (size : ℕ) (links : List ℕ) where
       let w = reads-leads size links b d q.0 q.2 in
       let z : b + 0 ≡ b = omega arith in
       subst (λ x. T (reads size links x b)) (leads-same a u q.0 v q.1 e) (rw z at (leads-reads size links b 0 q.0 w.0 w.1 tt))
+
+  -- and so can the first half
+  pub reads-half : (n u : ℕ) → T (reads size links u n) → T (reads size links u (n / 2))
+  reads-half n u r = reads-part n 0 (n / 2) u u (omega arith) refl r
 
   -- a links and then the rest of n
   pub leads-rest : (n a u v w : ℕ) → a ≤ n → Leads size links u a v → Leads size links v (n - a) w → Leads size links u n w

@@ -9,7 +9,7 @@ ghost use Rattle.refusal.specs.Refusal.{answer_of};
 use image::{Clusters, layout};
 use refusal::Refusal;
 
-// A sheet of size pixels with n slots and m entries.
+// A sheet of size pixels with n slots; outputs are the entries that are painted.
 #[derive(Clone, Copy)]
 pub(crate) struct Sheet<'a> {
     pub(crate) links: &'a [u32],
@@ -17,12 +17,10 @@ pub(crate) struct Sheet<'a> {
     pub(crate) outputs: &'a [u32],
     pub(crate) size: u32,
     pub(crate) n: u32,
-    pub(crate) m: u32,
     ghost some: { 0 < size },
     ghost small: { size ≤ limit },
     ghost links_fit: { size ≤ length links.now },
     ghost table_fits: { slot_width * n ≤ length table.now },
-    ghost outputs_fit: { m ≤ length outputs.now },
 }
 
 impl<'a> Sheet<'a> {
@@ -42,10 +40,9 @@ impl<'a> Sheet<'a> {
         Ok(Sheet {
             links: clusters.links,
             table: clusters.table,
-            outputs: clusters.outputs,
+            outputs: &clusters.outputs[..clusters.counts.m as usize],
             size,
             n: clusters.counts.n,
-            m: clusters.counts.m,
         })
     }
 

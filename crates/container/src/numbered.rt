@@ -1,5 +1,5 @@
 // A sheet whose entries have numbers that pass.
-ghost use Rattle.std.specs.Prelude.{◌≡◌, ℕ, ◌<◌, get_or, IfSome};
+ghost use Rattle.std.specs.Prelude.{◌≡◌, All, IfSome};
 ghost use Rattle.container.specs.Code.Quick.{NumbersPass};
 
 use crate::checked::Sheet;
@@ -8,8 +8,7 @@ use crate::checked::Sheet;
 #[derive(Clone, Copy)]
 pub(crate) struct Numbered<'a> {
     pub(crate) sheet: Sheet<'a>,
-    ghost numbers: { (i : ℕ) → i < sheet.m
-        → NumbersPass sheet.size sheet.n sheet.table.now (get_or sheet.outputs.now i 0) },
+    ghost numbers: { All (NumbersPass sheet.size sheet.n sheet.table.now) sheet.outputs.now },
 }
 
 impl<'a> Numbered<'a> {
@@ -17,10 +16,8 @@ impl<'a> Numbered<'a> {
     pub(crate) fn checked(sheet: Sheet<'a>) -> Option<Numbered<'a>>
         ensures { IfSome result (λ numbered. numbered.sheet ≡ sheet.entry) }
     {
-        for k in &sheet.outputs[..sheet.m as usize] {
-            if !sheet.slot_passes(*k) {
-                return None;
-            }
+        if !sheet.outputs.iter().all(|k| sheet.slot_passes(*k)) {
+            return None;
         }
         Some(Numbered { sheet })
     }

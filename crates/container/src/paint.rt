@@ -1,11 +1,12 @@
 // Painting: checks 8, 9 and 10 of every entry in their order, and the entries painted.
-ghost use Rattle.std.specs.Prelude.{◌≡◌, ◌-◌, ◌*◌, ◌/◌, ◌≤◌, ◌<◌, T, length, get_or};
-ghost use Rattle.rules.specs.Base.{times_back};
+ghost use Rattle.std.specs.Prelude.{◌≡◌, ◌*◌, ◌/◌, ◌≤◌, ◌<◌, T, length};
+ghost use Rattle.rules.specs.Base.{each_back};
 ghost use Rattle.rules.specs.Color.{has_average, average};
 ghost use Rattle.rules.specs.Paint as rules;
 ghost use Rattle.refusal.specs.Refusal.{answer_of};
 ghost use Rattle.color.specs.Colors.{color_of, sum_of};
 ghost use Rattle.container.specs.Code.Leads.{Leads};
+ghost use Rattle.container.specs.Code.Checked.{entries_answer, EntriesPass};
 ghost use Rattle.container.specs.Code.Stretch.{FirstHalf};
 
 use crate::checked::Sheet;
@@ -86,27 +87,27 @@ impl Sheet<'_> {
         Ok(())
     }
 
-    // Checks 8, 9 and 10 of the entries m - 1, .. 0.
+    // Checks 8, 9 and 10 of the entries, from last to first.
+    #[tactic(auto, using(crate::proofs::Entries::checks))]
     pub(crate) fn check_entries(self) -> Result<(), Refusal>
-        ensures { let s = self.entry in
-            answer_of result ≡ rules.entries_answer s.size s.n s.links.now s.table.now s.outputs.now s.m }
+        ensures { answer_of result ≡ entries_answer self.entry }
     {
-        for i in (0..self.m).rev() {
-            self.check_entry(self.outputs[i as usize])?;
+        for k in self.outputs.iter().rev() {
+            self.check_entry(*k)?;
         }
         Ok(())
     }
 
-    // The first half of the list of entry left - 1; nothing where left is 0.
-    fn first_half(self, left: u32) -> Stretch
-        requires within { left ≤ self.m }
-        requires slot { 0 < left → get_or self.outputs.now (left - 1) 0 < self.n }
-        ensures { let s = self.entry in FirstHalf s.table.now s.outputs.now left result.first result.count }
+    // The first half of the list of the last entry; nothing where there is none.
+    fn first_half(self, entries: &[u32]) -> Stretch
+        requires { EntriesPass self entries.now }
+        ensures half { FirstHalf self.entry.table.now entries.now result }
+        ensures read { let s = self.entry in T (rules.reads s.size s.links.now result.first result.count) }
     {
-        if left == 0 {
+        let [.., k] = entries else {
             return Stretch { first: 0, count: 0 };
-        }
-        let list = self.list(self.outputs[(left - 1) as usize]);
+        };
+        let list = self.list(*k);
         Stretch {
             first: list.first,
             count: list.count / 2,
@@ -133,21 +134,21 @@ impl Sheet<'_> {
         self.paint_halves(picture, at, list.count, ahead.count, self.average(k))
     }
 
-    // Paints the entries m - 1, .. 0, all of which pass.
-    pub(crate) fn paint_entries(self, picture: &mut [u8], m: u32)
+    // Paints the entries from last to first.
+    #[tactic(auto, using(crate::proofs::Entries::paints))]
+    pub(crate) fn paint_entries(self, picture: &mut [u8], entries: &[u32])
         requires long { length picture.old ≡ 4 * self.size }
-        requires entries { m ≤ self.m }
-        requires passed { let s = self in
-            rules.entries_answer s.size s.n s.links.now s.table.now s.outputs.now m ≡ 0 }
+        requires passed { EntriesPass self entries.now }
         ensures { let s = self.entry in picture.new
-            ≡ times_back m (λ i. rules.paint_slot s.links.now s.table.now (get_or s.outputs.now i 0)) picture.old }
+            ≡ each_back entries.now (rules.paint_slot s.links.now s.table.now) picture.old }
     {
-        let begun = self.first_half(m);
+        let begun = self.first_half(entries);
         let mut mid = self.look(begun.first, begun.count);
-        for i in (0..m).rev() {
-            let ahead = self.first_half(i);
-            let k = self.outputs[i as usize];
-            mid = self.render_to_color_image(picture, k, mid, ahead);
+        let mut left = entries;
+        while let [before @ .., k] = left {
+            let ahead = self.first_half(before);
+            mid = self.render_to_color_image(picture, *k, mid, ahead);
+            left = before;
         }
     }
 }

@@ -1,8 +1,9 @@
 // The picture: the quick checks, the plain one where they do not decide, and then the entries.
 ghost use Rattle.std.specs.Prelude.{◌≡◌, true, ℕ, ◌*◌, ◌≤◌, ◌<◌, T, length, get_or};
 ghost use Rattle.rules.specs.Color.{has_average, average};
-ghost use Rattle.rules.specs.Paint as rules;
+ghost use Rattle.rules.specs.Paint.{slot_residue};
 ghost use Rattle.refusal.specs.Refusal.{answer_of};
+ghost use Rattle.container.specs.Code.Checked.{entries_answer, painting};
 ghost use Rattle.container.specs.Code.Quick.{ListPasses};
 ghost use Rattle.container.specs.Code.Uniform.{uniform};
 ghost use Rattle.container.specs.Code.Covered.{Whole};
@@ -10,17 +11,15 @@ ghost use Rattle.container.specs.Code.Covered.{Whole};
 use crate::checked::Sheet;
 use crate::fill;
 use crate::numbered::Numbered;
-use image::layout;
 use refusal::Refusal;
 
 impl Numbered<'_> {
     // Checks the entries, whose lists pass from entry `rest` on.
-    fn check_lists(self, rest: u32) -> Result<(), Refusal>
-        requires rest { rest ≤ self.sheet.m }
-        requires lists { let s = self.sheet in (i : ℕ) → rest ≤ i → i < s.m
+    fn check_lists(self, rest: usize) -> Result<(), Refusal>
+        requires rest { rest ≤ length self.sheet.outputs.now }
+        requires lists { let s = self.sheet in (i : ℕ) → rest ≤ i → i < length s.outputs.now
             → ListPasses s.size s.links.now s.table.now (get_or s.outputs.now i 0) }
-        ensures { let s = self.entry.sheet in
-            answer_of result ≡ rules.entries_answer s.size s.n s.links.now s.table.now s.outputs.now s.m }
+        ensures { answer_of result ≡ entries_answer self.entry.sheet }
     {
         if self.lists_pass(rest) {
             return Ok(());
@@ -31,17 +30,13 @@ impl Numbered<'_> {
     // Whether the last entry's list is found to be all pixels.
     fn is_covered(self) -> bool
         ensures { let s = self.entry.sheet in
-            result ≡ true → Whole s.size s.links.now s.table.now s.outputs.now s.m }
+            result ≡ true → Whole s.size s.links.now s.table.now s.outputs.now }
     {
-        let sheet = self.sheet;
-        if sheet.m == 0 {
+        let Some(k) = self.sheet.outputs.last() else {
             return false;
-        }
-        let k = sheet.outputs[(sheet.m - 1) as usize];
-        if sheet.slot_number(k, layout::PIXEL_COUNT) != sheet.size {
-            return false;
-        }
-        self.is_all()
+        };
+        let list = self.sheet.list(*k);
+        list.count == self.sheet.size && self.is_all(list.first)
     }
 }
 
@@ -49,45 +44,40 @@ impl Sheet<'_> {
     // Paints every pixel with the residue average of slot k.
     fn paint_all(self, picture: &mut [u8], k: u32)
         requires slot { k < self.n }
-        requires average { T (has_average (rules.slot_residue self.table.now k)) }
+        requires average { T (has_average (slot_residue self.table.now k)) }
         requires long { length picture.old ≡ 4 * self.size }
         ensures { let s = self.entry in
-            picture.new ≡ uniform (average (rules.slot_residue s.table.now k)) s.size }
+            picture.new ≡ uniform (average (slot_residue s.table.now k)) s.size }
     {
-        fill::fill(picture, self.size as usize, self.average(k));
+        fill::fill(picture, self.average(k));
     }
 
     // Paints the entries over zeros.
     fn paint_over_zeros(self, picture: &mut [u8])
         requires long { length picture.old ≡ 4 * self.size }
-        requires passed { let s = self in
-            rules.entries_answer s.size s.n s.links.now s.table.now s.outputs.now s.m ≡ 0 }
-        ensures { let s = self.entry in record { answer = 0; picture = picture.new }
-            ≡ rules.painting s.size s.n s.m s.links.now s.table.now s.outputs.now picture.old }
+        requires passed { entries_answer self ≡ 0 }
+        ensures { record { answer = 0; picture = picture.new } ≡ painting self.entry picture.old }
     {
         picture.fill(0);
-        self.paint_entries(picture, self.m);
+        self.paint_entries(picture, self.outputs);
     }
 
     // Paints the other entries over the last one, which is all pixels.
     fn paint_over_last(self, picture: &mut [u8])
         requires long { length picture.old ≡ 4 * self.size }
-        requires passed { let s = self in
-            rules.entries_answer s.size s.n s.links.now s.table.now s.outputs.now s.m ≡ 0 }
-        requires whole { let s = self in Whole s.size s.links.now s.table.now s.outputs.now s.m }
-        ensures { let s = self.entry in record { answer = 0; picture = picture.new }
-            ≡ rules.painting s.size s.n s.m s.links.now s.table.now s.outputs.now picture.old }
+        requires passed { entries_answer self ≡ 0 }
+        requires whole { let s = self in Whole s.size s.links.now s.table.now s.outputs.now }
+        ensures { record { answer = 0; picture = picture.new } ≡ painting self.entry picture.old }
     {
-        let rest = self.m - 1;
-        self.paint_all(picture, self.outputs[rest as usize]);
-        self.paint_entries(picture, rest);
+        let rest = self.outputs.len() - 1;
+        self.paint_all(picture, self.outputs[rest]);
+        self.paint_entries(picture, &self.outputs[..rest]);
     }
 
     // Paints when every entry passes, and else answers the first check that failed.
     pub(crate) fn paint(self, picture: &mut [u8]) -> Result<(), Refusal>
         requires { length picture.old ≡ 4 * self.size }
-        ensures { let s = self.entry in record { answer = answer_of result; picture = picture.new }
-            ≡ rules.painting s.size s.n s.m s.links.now s.table.now s.outputs.now picture.old }
+        ensures { record { answer = answer_of result; picture = picture.new } ≡ painting self.entry picture.old }
     {
         let Some(numbered) = Numbered::checked(self) else {
             self.check_entries()?;
@@ -95,11 +85,11 @@ impl Sheet<'_> {
             return Ok(());
         };
         if !numbered.is_covered() {
-            numbered.check_lists(self.m)?;
+            numbered.check_lists(self.outputs.len())?;
             self.paint_over_zeros(picture);
             return Ok(());
         }
-        numbered.check_lists(self.m - 1)?;
+        numbered.check_lists(self.outputs.len() - 1)?;
         self.paint_over_last(picture);
         Ok(())
     }

@@ -1,5 +1,5 @@
 // Checks that can only say that entries pass; where they do not, the plain check decides.
-ghost use Rattle.std.specs.Prelude.{◌≡◌, true, List, ℕ, ◌≤◌, ◌<◌, get_or};
+ghost use Rattle.std.specs.Prelude.{◌≡◌, true, List, ℕ, ◌≤◌, ◌<◌, length, get_or};
 ghost use Rattle.container.specs.Code.Quick.{NumbersPass, ListPasses, LanePasses, LanesPass, RestsPass};
 
 use crate::checked::Sheet;
@@ -28,7 +28,7 @@ impl Sheet<'_> {
 struct Lane {
     at: u32,
     count: u32,
-    left: u32,
+    left: usize,
 }
 
 // The rests of four lists, which are read at once. `left` entries have not been taken.
@@ -36,34 +36,37 @@ struct Lane {
 struct Lanes {
     at: [u32; 4],
     count: [u32; 4],
-    left: u32,
+    left: usize,
 }
 
 impl Numbered<'_> {
     // The lane; where it has no pixel left, it takes the next entry that has pixels, from the last of `left` entries
     // down.
+    #[tactic(auto, using(crate::proofs::Passes::takes))]
     fn filled(self, lane: Lane) -> Lane
-        requires { lane.left ≤ self.sheet.m }
+        requires { lane.left ≤ length self.sheet.outputs.now }
         ensures left { result.left ≤ lane.left }
         ensures passes { let s = self.entry.sheet in LanePasses s.table.now s.outputs.now lane result }
     {
-        let Lane {
-            mut at,
-            mut count,
-            mut left,
-        } = lane;
-        while (count == 0) & (0 < left) {
-            left -= 1;
-            let list = self.sheet.list(self.sheet.outputs[left as usize]);
-            at = list.first;
-            count = list.count;
+        if lane.count != 0 {
+            return lane;
         }
-        Lane { at, count, left }
+        for left in (0..lane.left).rev() {
+            let list = self.sheet.list(self.sheet.outputs[left]);
+            if list.count != 0 {
+                return Lane {
+                    at: list.first,
+                    count: list.count,
+                    left,
+                };
+            }
+        }
+        Lane { left: 0, ..lane }
     }
 
     // The four lanes, each filled.
     fn all_filled(self, lanes: Lanes) -> Lanes
-        requires { lanes.left ≤ self.sheet.m }
+        requires { lanes.left ≤ length self.sheet.outputs.now }
         ensures left { result.left ≤ lanes.left }
         ensures pass { let s = self.entry.sheet in
             (size : ℕ) (links : List ℕ) (m : ℕ) → LanesPass size links s.table.now s.outputs.now m lanes
@@ -103,8 +106,8 @@ impl Numbered<'_> {
 
     // Whether the lists of m entries can be read: four at a time as long as entries are taken, and then the rests one
     // after another.
-    pub(crate) fn lists_pass(self, m: u32) -> bool
-        requires { m ≤ self.sheet.m }
+    pub(crate) fn lists_pass(self, m: usize) -> bool
+        requires { m ≤ length self.sheet.outputs.now }
         ensures { let s = self.entry.sheet in
             result ≡ true → (i : ℕ) → i < m → ListPasses s.size s.links.now s.table.now (get_or s.outputs.now i 0) }
     {

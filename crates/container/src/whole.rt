@@ -1,7 +1,6 @@
 // Whether the last entry's list is all pixels of the sheet: three stretches of it are walked at once, so that no link
 // waits for another's.
 ghost use Rattle.std.specs.Prelude.{◌≡◌, true, false, ℕ, ◌-◌, ◌*◌, ◌≤◌, ◌<◌, length, get_or};
-ghost use Rattle.rules.specs.Paint.{slot_number};
 ghost use Rattle.container.specs.Code.Leads.{Leads};
 
 use crate::checked::Sheet;
@@ -12,13 +11,6 @@ use crate::numbered::Numbered;
 pub(crate) struct Walk<const N: usize> {
     pub(crate) at: [u32; N],
     pub(crate) moved: u32,
-}
-
-// Where the walks from first, q and r stop, and how many links each has gone.
-#[derive(Clone, Copy)]
-struct Ends {
-    at: [u32; 3],
-    moved: [u32; 3],
 }
 
 impl Sheet<'_> {
@@ -40,7 +32,9 @@ impl Sheet<'_> {
         }
     }
 
-    // Walks from several pixels, most links at most, until one of the walks stops.
+    // Walks from several pixels, most links at most, until one of the walks stops. In a caller its places would not all
+    // stay in registers.
+    #[inline(never)]
     pub(crate) fn walk<const N: usize>(self, q: u32, r: u32, from: [u32; N], most: u32) -> Walk<N>
         ensures moved { result.moved ≤ most }
         ensures leads { let s = self.entry in (i : ℕ) → i < N
@@ -57,14 +51,14 @@ impl Sheet<'_> {
     }
 
     // Walks from first, q and r: all three, then any two of which neither has stopped, then each alone.
-    fn walks(self, first: u32, q: u32, r: u32) -> Ends
+    fn walks(self, first: u32, q: u32, r: u32) -> (Walk<1>, Walk<1>, Walk<1>)
         requires q { (0 < q) × (q ≤ self.size) }
         requires r { (0 < r) × (r ≤ self.size) }
-        ensures moved { (i : ℕ) → i < 3 → get_or result.moved i 0 ≤ 5 * self.entry.size }
-        ensures first { let s = self.entry in
-            Leads s.size s.links.now first (get_or result.moved 0 0) (get_or result.at 0 0) }
-        ensures q { let s = self.entry in Leads s.size s.links.now q (get_or result.moved 1 0) (get_or result.at 1 0) }
-        ensures r { let s = self.entry in Leads s.size s.links.now r (get_or result.moved 2 0) (get_or result.at 2 0) }
+        ensures moved { let most = 5 * self.entry.size in
+            (result.0.moved ≤ most) × (result.1.moved ≤ most) × (result.2.moved ≤ most) }
+        ensures first { let s = self.entry in Leads s.size s.links.now first result.0.moved (get_or result.0.at 0 0) }
+        ensures q { let s = self.entry in Leads s.size s.links.now q result.1.moved (get_or result.1.at 0 0) }
+        ensures r { let s = self.entry in Leads s.size s.links.now r result.2.moved (get_or result.2.at 0 0) }
     {
         let mut on = [q, r];
         self.follow(&mut on);
@@ -77,14 +71,20 @@ impl Sheet<'_> {
         let x = self.walk(q, r, [w.at[0]], size);
         let y = self.walk(q, r, [v.at[0]], size);
         let z = self.walk(q, r, [w.at[1]], size);
-        Ends {
-            at: [x.at[0], y.at[0], z.at[0]],
-            moved: [
-                t.moved + u.moved + w.moved + x.moved,
-                1 + t.moved + u.moved + v.moved + y.moved,
-                1 + t.moved + v.moved + w.moved + z.moved,
-            ],
-        }
+        (
+            Walk {
+                moved: t.moved + u.moved + w.moved + x.moved,
+                ..x
+            },
+            Walk {
+                moved: 1 + t.moved + u.moved + v.moved + y.moved,
+                ..y
+            },
+            Walk {
+                moved: 1 + t.moved + v.moved + w.moved + z.moved,
+                ..z
+            },
+        )
     }
 
     // True only if size links from first lead to 0: from first to q, to r and to 0, or to r, to q and to 0.
@@ -93,45 +93,43 @@ impl Sheet<'_> {
         requires r { (0 < r) × (r ≤ self.size) }
         ensures { let s = self.entry in result ≡ true → Leads s.size s.links.now first s.size 0 }
     {
-        let ends = self.walks(first, q, r);
-        let [a, b, c] = ends.at;
-        let [na, nb, nc] = ends.moved;
-        if na + nb + nc != self.size {
+        let (x, y, z) = self.walks(first, q, r);
+        if x.moved + y.moved + z.moved != self.size {
             return false;
         }
-        if (a == q) & (b == r) & (c == 0) {
+        let ends = [x.at[0], y.at[0], z.at[0]];
+        if ends == [q, r, 0] {
             return true;
         }
-        (a == r) & (c == q) & (b == 0)
+        ends == [r, 0, q]
     }
 }
 
 impl Numbered<'_> {
-    // The first pixel of entry m - back, plus one, where there are three entries and it is on the sheet, else other.
-    fn stretch_start(self, back: u32, other: u32) -> u32
+    // The first pixel of the entry back from the end, plus one, where there are three entries and it is on the sheet,
+    // else other.
+    fn stretch_start(self, back: usize, other: u32) -> u32
         requires back { (0 < back) × (back ≤ 3) }
         requires other { (0 < other) × (other ≤ self.sheet.size) }
         ensures { (0 < result) × (result ≤ self.entry.sheet.size) }
     {
         let sheet = self.sheet;
-        if sheet.m < 3 {
+        let m = sheet.outputs.len();
+        if m < 3 {
             return other;
         }
-        let v = sheet.list(sheet.outputs[(sheet.m - back) as usize]).first;
+        let v = sheet.list(sheet.outputs[m - back]).first;
         if (v == 0) | (sheet.size < v) {
             return other;
         }
         v
     }
 
-    // True only if size links from the first pixel of the last entry lead to 0.
-    pub(crate) fn is_all(self) -> bool
-        requires { 0 < self.sheet.m }
-        ensures { let s = self.entry.sheet in result ≡ true
-            → Leads s.size s.links.now (slot_number s.table.now (get_or s.outputs.now (s.m - 1) 0) 0) s.size 0 }
+    // True only if size links from first lead to 0.
+    pub(crate) fn is_all(self, first: u32) -> bool
+        ensures { let s = self.entry.sheet in result ≡ true → Leads s.size s.links.now first s.size 0 }
     {
         let sheet = self.sheet;
-        let first = sheet.list(sheet.outputs[(sheet.m - 1) as usize]).first;
         let q = self.stretch_start(2, sheet.size / 8 + 1);
         let r = self.stretch_start(3, sheet.size / 2 + 1);
         sheet.is_whole(first, q, r)

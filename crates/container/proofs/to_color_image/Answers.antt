@@ -1,10 +1,11 @@
-use mathlib.Core.Path.{◌≡◌, sym}
+use mathlib.Core.Path.{◌≡◌, sym, ◌∙◌}
 use Rattle.std.proofs.Common.{rules}
 use lib.ListN.{length}
 use Rattle.rules.specs.Refusals.{paint_answer}
 use Rattle.rules.specs.Calls.{paint_call}
 use Rattle.refusal.specs.Refusal.{number_of, answer_of}
 use Rattle.refusal.proofs.Laws.{refused-number}
+use Rattle.container.proofs.Pictures.{sheet-painting}
 use Rattle.container.proofs.to_color_image.Goals as goal
 
 pub returns-in_err-checked : goal.returns-in_err-checked
@@ -16,6 +17,5 @@ returns-in_err-checked c =
 pub returns : goal.returns
 unfolding paint_call
 returns c = let a = c.args.clusters in
-    let s = c.in_ok-checked.ensures.sheet in
     let z : paint_answer a.size.w a.size.h (length a.links.now) (length a.table.now) (length a.outputs.now) (length c.args.picture.now) a.counts.n a.counts.m ≡ 0 = sym c.in_ok-checked.ensures.answer in
-    rw (z, ← s.size, ← s.n, ← s.m, ← s.links, ← s.table, ← s.outputs) c.paint.ensures
+    rw z (c.paint.ensures ∙ sheet-painting a _ _ _ c.in_ok-checked.ensures.sheet)

@@ -1,5 +1,8 @@
--- The sheet that is painted.
-use Rattle.std.specs.Prelude.{◌≡◌, ℕ, ◌*◌}
+-- The sheet that is painted, and what the rules say of it.
+use Rattle.std.specs.Prelude.{◌≡◌, List, ℕ, ◌*◌, length, take}
+use Rattle.std.specs.List.{All}
+use Rattle.rules.specs.Paint as rules
+use Rattle.rules.specs.Paint.{Painted}
 use Rattle.image.specs.declared.Clusters.{Clusters}
 use Rattle.container.specs.declared.checked.Sheet.{Sheet}
 
@@ -7,8 +10,20 @@ use Rattle.container.specs.declared.checked.Sheet.{Sheet}
 pub record IsSheetOf (clusters : Clusters) (bytes : ℕ) (sheet : Sheet) : Type 0 where
   pub size : sheet.size ≡ clusters.size.w * clusters.size.h
   pub n : sheet.n ≡ clusters.counts.n
-  pub m : sheet.m ≡ clusters.counts.m
+  pub m : length sheet.outputs.now ≡ clusters.counts.m
   pub links : sheet.links.now ≡ clusters.links.now
   pub table : sheet.table.now ≡ clusters.table.now
-  pub outputs : sheet.outputs.now ≡ clusters.outputs.now
+  pub outputs : sheet.outputs.now ≡ take clusters.counts.m clusters.outputs.now
   pub four : bytes ≡ 4 * sheet.size
+
+-- what the checks of its entries answer
+abbrev pub entries_answer : Sheet → ℕ
+entries_answer s = rules.entries_answer s.size s.n s.links.now s.table.now s.outputs.now (length s.outputs.now)
+
+-- each entry passes
+abbrev pub EntriesPass : Sheet → List ℕ → Type 0
+EntriesPass s entries = All (λ k. rules.entry_answer s.size s.n s.links.now s.table.now k ≡ 0) entries
+
+-- what painting it answers, and the picture as it leaves it; `given` is the picture before
+abbrev pub painting : Sheet → List ℕ → Painted
+painting s given = rules.painting s.size s.n (length s.outputs.now) s.links.now s.table.now s.outputs.now given

@@ -22,11 +22,10 @@ PassFrom size links table outputs m left = (i : ℕ) → left ≤ i → i < m �
 
 -- If the rest that lane y holds can be read, so can that which lane x held before, and the lists of the entries that
 -- were taken since.
-abbrev pub LanePasses : List ℕ → List ℕ → Lane → Lane → Type 0
-LanePasses table outputs x y =
-    (size : ℕ) (links : List ℕ) → T (reads size links y.at y.count)
-    → T (reads size links x.at x.count)
-    × ((m : ℕ) → PassFrom size links table outputs m x.left → PassFrom size links table outputs m y.left)
+pub record LanePasses (table outputs : List ℕ) (x y : Lane) : Type 0 where
+  pub rest : (size : ℕ) (links : List ℕ) → T (reads size links y.at y.count) → T (reads size links x.at x.count)
+  pub taken : (size : ℕ) (links : List ℕ) → T (reads size links y.at y.count)
+      → (m : ℕ) → PassFrom size links table outputs m x.left → PassFrom size links table outputs m y.left
 
 -- the rests of the four lanes can be read
 abbrev pub RestsPass : ℕ → List ℕ → Lanes → Type 0

@@ -1,9 +1,8 @@
 use mathlib.Core.Path.{◌≡◌}
-use Prim.Native.Nat.{◌*◌}
 use lib.ListN.{length}
 use Rattle.color.specs.Colors.{color_of}
 use Rattle.container.proofs.Covered.{Begins}
 use Rattle.container.proofs.fill.fill.Given as goal
 
 abbrev pub invariant-loop-p : goal.invariant-loop-p
-invariant-loop-p l = record { long : length l.picture ≡ 4 * l.size; begins : Begins l.p (color_of l.c) l.picture }
+invariant-loop-p l = record { long : length l.picture ≡ length l.initial.picture; begins : Begins l.p (color_of l.c) l.picture }

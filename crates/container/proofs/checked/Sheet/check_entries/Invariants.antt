@@ -1,8 +1,9 @@
 use mathlib.Core.Path.{◌≡◌}
-use Rattle.rules.specs.Paint.{entries_answer}
+use lib.ListN.{length}
+use Rattle.rules.specs.Paint as rules
+use Rattle.container.specs.Code.Checked.{entries_answer}
 use Rattle.container.proofs.checked.Sheet.check_entries.Given as goal
 
--- what is left of the entries answers
-abbrev pub invariant-loop-i : goal.invariant-loop-i
-invariant-loop-i l = let s = l.self in
-    entries_answer s.size s.n s.links.now s.table.now s.outputs.now l.i ≡ entries_answer s.size s.n s.links.now s.table.now s.outputs.now s.m
+-- the entries that are left answer
+abbrev pub invariant-loop-k : goal.invariant-loop-k
+invariant-loop-k l = let s = l.self in let rest = l.k-iterator.iter.rest.now in rules.entries_answer s.size s.n s.links.now s.table.now rest (length rest) ≡ entries_answer l.fn.self

@@ -33,7 +33,7 @@ pub invariant_of-result : goal.invariant_of-result
 invariant_of-result c = let s = c.args.clusters in
     let p : CanPaint c.in_ok-size.size s.counts.n s.counts.m (length s.links.now) (length s.table.now) (length s.outputs.now) c.args.picture =
     rw c.in_ok-size.ensures.pixels (can-paint s.size.w s.size.h _ _ _ _ _ _ (accepted (goal.at.invariant_of-result c).Else-picture-size)) in
-    record { some = p.some; small = p.small; links_fit = p.links-fit; table_fits = p.table_fits; outputs_fit = p.outputs-fit }
+    record { some = p.some; small = p.small; links_fit = p.links-fit; table_fits = p.table_fits }
 
 pub returns-clause-answer : goal.returns-clause-answer
 returns-clause-answer c = sym (accepted (goal.at.returns-clause-answer c).Else-picture-size)

@@ -1,4 +1,4 @@
-use mathlib.Core.Path.{◌≡◌, subst}
+use mathlib.Core.Path.{◌≡◌, sym, ◌∙◌}
 use mathlib.Core.Bool.{true, ◌&&◌}
 use mathlib.Core.List.{List}
 use Prim.Native.Nat.{ℕ, ◌+◌}
@@ -12,21 +12,23 @@ use Rattle.container.proofs.checked.Sheet.is_whole.Goals as goal
 
 -- three stretches of size links, one after another, that end with 0
 joined : (size : ℕ) (links : List ℕ) (c d e u v w x y z : ℕ) → Leads size links u c x → Leads size links v d y → Leads size links w e z
-    → c + d + e ≡ size → eqb x v && eqb y w && eqb z 0 ≡ true → Leads size links u size 0
-joined size links c d e u v w x y z k l m n t =
-    let s = both_true (eqb x v && eqb y w) (eqb z 0) t in
-    let f = both_true (eqb x v) (eqb y w) s.0 in
-    let k₁ = subst (λ i. Leads size links u c i) (eqb-true x v f.0) k in
-    let l₁ = subst (λ i. Leads size links v d i) (eqb-true y w f.1) l in
-    let m₁ = subst (λ i. Leads size links w e i) (eqb-true z 0 s.1) m in
-    subst (λ i. Leads size links u i 0) n (leads-on size links (c + d) e u w 0 (leads-on size links c d u v w k₁ l₁) m₁)
+    → c + d + e ≡ size → x ≡ v → y ≡ w → z ≡ 0 → Leads size links u size 0
+joined size links c d e u v w x y z k l m n p q r =
+    rw n at (leads-on size links (c + d) e u w 0 (leads-on size links c d u v w (rw p at k) (rw q at l)) (rw r at m))
 
-pub returns-then-a-q : goal.returns-then-a-q
-returns-then-a-q c e = let a = c.args in
-    let l = c.walks-ends.ensures in
-    joined a.self.size a.self.links.now _ _ _ a.first a.q a.r _ _ _ l.first l.q l.r c.if-na-nb.false c.if-a-q.true
+-- what the comparison of three numbers says
+each : (x y z u v w : ℕ) → eqb x u && (eqb y v && (eqb z w && true)) ≡ true → (x ≡ u) × (y ≡ v) × (z ≡ w)
+each x y z u v w t =
+    let s = both_true (eqb x u) _ t in
+    let f = both_true (eqb y v) _ s.1 in
+    (eqb-true x u s.0, eqb-true y v f.0, eqb-true z w (both_true (eqb z w) true f.1).0)
+
+pub returns-then-eq : goal.returns-then-eq
+returns-then-eq c e = let s = c.args.self in let l = c.walks.ensures in
+    let t = each _ _ _ c.args.q c.args.r 0 (sym c.eq.ensures ∙ c.if-eq.true) in
+    joined s.size s.links.now _ _ _ c.args.first c.args.q c.args.r _ _ _ l.first l.q l.r c.if-x-y.false t.0 t.1 t.2
 
 pub returns : goal.returns
-returns c e = let a = c.args in
-    let l = c.walks-ends.ensures in
-    joined a.self.size a.self.links.now _ _ _ a.first a.r a.q _ _ _ l.first l.r l.q (omega (arith, c.if-na-nb.false)) e
+returns c e = let s = c.args.self in let l = c.walks.ensures in
+    let t = each _ _ _ c.args.r 0 c.args.q (sym c.eq-2.ensures ∙ e) in
+    joined s.size s.links.now _ _ _ c.args.first c.args.r c.args.q _ _ _ l.first l.r l.q (omega (arith, c.if-x-y.false)) t.0 t.2 t.1

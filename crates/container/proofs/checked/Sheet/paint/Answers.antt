@@ -1,4 +1,5 @@
 use mathlib.Core.Path.{◌≡◌, ap}
+use lib.ListN.{length}
 use Rattle.std.proofs.Common.{rules}
 use Rattle.refusal.specs.Refusal.{number_of, answer_of}
 use Rattle.container.proofs.Pictures.{refused, whole-passes}
@@ -16,7 +17,7 @@ returns-in_err-check_lists c =
 
 pub check_lists-requires-2-clause-lists : goal.check_lists-requires-2-clause-lists
 check_lists-requires-2-clause-lists c i l b =
-    let e : c.in-Some.numbered.sheet.m ≡ c.args.self.m = ap (λ s. s.m) c.in-Some.ensures in
+    let e : length c.in-Some.numbered.sheet.outputs.now ≡ length c.args.self.outputs.now = ap (λ s. length s.outputs.now) c.in-Some.ensures in
     whole-passes (c.is_covered.ensures c.if-not-is_covered.false) i (rw e l) b
 
 pub returns-in_err-check_lists-2 : goal.returns-in_err-check_lists-2
