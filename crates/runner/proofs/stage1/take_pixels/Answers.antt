@@ -1,5 +1,4 @@
 use Prim.Native.Nat.{◌<◌}
-use native.Mathlib.Numerals.{add-one}
 use native.Mathlib.Omega.{arith}
 use Rattle.runner.proofs.SpanLaws.{labels-fit, extending, can-span, held-span}
 use Rattle.runner.proofs.Spots.{spot_in}
@@ -10,24 +9,14 @@ use Rattle.runner.proofs.stage1.take_pixels.Goals.{Else-n-eq0}
 some : (c : Else-n-eq0) → 0 < c.span_length-n.result
 some c = omega (arith, c.if-n-eq0.false)
 
-pub span_length-n-requires : goal.span_length-n-requires
-span_length-n-requires c = let Q = c.requires.taking.1 in
-    record { spot = Q.spot; labelled = labels-fit Q; limits_of = c.requires.limits_of }
-
-pub returns-then-n-eq0-clause-pixels : goal.returns-then-n-eq0-clause-pixels
-returns-then-n-eq0-clause-pixels c = (omega arith, omega (arith, c.requires.taking.1.spot.column))
-
-pub returns-then-n-eq0-clause-holding : goal.returns-then-n-eq0-clause-holding
-returns-then-n-eq0-clause-holding c t₀ Q = rw add-one (c.take_pixel.ensures.holding t₀ Q)
+pub span_length-n-requires-clause-labelled : goal.span_length-n-requires-clause-labelled
+span_length-n-requires-clause-labelled c = labels-fit c.requires.taking.1
 
 pub bounds-b-at : goal.bounds-b-at
 bounds-b-at c = let Q = c.requires.taking.1 in omega (arith, labels-fit Q, spot_in Q.spot)
 
 pub add_span-requires : goal.add_span-requires
 add_span-requires c = can-span c.requires.taking.1 c.span_length-n.ensures (some (goal.at.add_span-requires c).Else-n-eq0)
-
-pub returns-clause-pixels : goal.returns-clause-pixels
-returns-clause-pixels c = (some (goal.at.returns-clause-pixels c).Else-n-eq0, c.span_length-n.ensures.within)
 
 pub returns-clause-holding : goal.returns-clause-holding
 returns-clause-holding c t₀ Q = let z = some (goal.at.returns-clause-holding c).Else-n-eq0 in
