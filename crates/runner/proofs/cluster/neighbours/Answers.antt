@@ -54,12 +54,8 @@ here c = step _ _ _ _ (omega arith) c.loop.invariant.readable
 pub overflow_sub-p : goal.overflow_sub-p
 overflow_sub-p c = (here (goal.at.overflow_sub-p c).In-loop).some
 
-pub look-found-requires : goal.look-found-requires
-look-found-requires c =
-    let S = c.requires in
-    let G = c.loop.invariant in
-    let at = here (goal.at.look-found-requires c).In-loop in
-    record { pixel = omega (arith, at.some, at.within); marked = λ q i n. rw G.kept (S.notable q i n).mark; count_bound = omega (arith, G.few) }
+pub look-found-requires-clause-pixel : goal.look-found-requires-clause-pixel
+look-found-requires-clause-pixel c = let at = here (goal.at.look-found-requires-clause-pixel c).In-loop in omega (arith, at.some, at.within)
 
 pub bounds-links-p : goal.bounds-links-p
 bounds-links-p c = omega (arith, (here (goal.at.bounds-links-p c).In-loop).some, (here (goal.at.bounds-links-p c).In-loop).within, c.requires.linked)

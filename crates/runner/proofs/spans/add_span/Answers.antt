@@ -54,10 +54,7 @@ span_head image i x y (suc n) h l a b d e = head_is (span_of image i x y (suc n)
 
 -- with the head that is loaded
 module _ {image : List ℕ} {k i x y n : ℕ} {L K B E : List ℕ} {s : Head} (loaded : s ≡ head_at B k) (p : CanAddSpan image k i x y n L K B E) where
-  -- what is asked where the span is linked, and where it is added
-  asks-link : 0 < s.count → (0 < get_or E k 0) × (get_or E k 0 ≤ length K)
-  asks-link = rw loaded p.room.tail
-
+  -- what is asked where it is added
   asks-sum : {z : declared.ColorSum} → sum_of z ≡ sum_from image i n → (s.count + n < sum_bound) × Adds (sum_of s.sum) (sum_of z)
   asks-sum e = rw (loaded, e) (omega (arith, p.room.count, p.small.0), p.sum)
 

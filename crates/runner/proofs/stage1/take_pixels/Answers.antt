@@ -1,5 +1,4 @@
 use Prim.Native.Nat.{◌<◌}
-use native.Mathlib.Numerals.{add-one}
 use native.Mathlib.Omega.{arith}
 use Rattle.runner.proofs.SpanLaws.{labels-fit, extending, can-span, held-span}
 use Rattle.runner.proofs.Spots.{spot_in}
@@ -10,9 +9,8 @@ use Rattle.runner.proofs.stage1.take_pixels.Goals.{Else-n-eq0}
 some : (c : Else-n-eq0) → 0 < c.span_length-n.result
 some c = omega (arith, c.if-n-eq0.false)
 
-pub span_length-n-requires : goal.span_length-n-requires
-span_length-n-requires c = let Q = c.requires.taking.1 in
-    record { spot = Q.spot; labelled = labels-fit Q; limits_of = c.requires.limits_of }
+pub span_length-n-requires-clause-labelled : goal.span_length-n-requires-clause-labelled
+span_length-n-requires-clause-labelled c = labels-fit c.requires.taking.1
 
 pub bounds-b-at : goal.bounds-b-at
 bounds-b-at c = let Q = c.requires.taking.1 in omega (arith, labels-fit Q, spot_in Q.spot)

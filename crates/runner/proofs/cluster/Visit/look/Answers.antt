@@ -2,7 +2,7 @@ use Rattle.std.proofs.Common.{◌≡◌, sym, ap, List, ℕ, length, arith}
 use Rattle.rules.specs.Grid.{sides}
 use Rattle.rules.proofs.Labels.{sides-fit}
 use Rattle.runner.specs.Code.Neighbours.{around, noted_four}
-use Rattle.runner.proofs.Nearest.{notable, some-noted, one-noted, all-noted}
+use Rattle.runner.proofs.Nearest.{notable, some-noted, all-noted}
 use Rattle.runner.proofs.cluster.Visit.look.Goals as goal
 
 -- the labels at the four places
@@ -23,10 +23,6 @@ note-near-requires c =
       notable = rw (l.auto.marks, f.ensures) (notable _ _ _ _ (λ q i n. record { mark = c.requires.marked q i n; averaged = v.averaged q i n }) (sides _ _ _) (sides-fit v.input.now.w v.input.now.h c.args.p c.requires.pixel) l.label-index);
       count_bound = omega (arith, n, c.requires.count_bound);
     }
-
-pub loop-label-preserved : goal.loop-label-preserved
-loop-label-preserved c = let f = c.four_labels-label-items in
-    one-noted _ _ _ f.result c.loop-label.label-index _ _ _ (omega (arith, four _ _ _ _ f.ensures)) c.loop-label.invariant c.note-near.ensures
 
 pub returns : goal.returns
 unfolding sides noted_four
