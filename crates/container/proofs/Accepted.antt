@@ -10,7 +10,7 @@ use Rattle.rules.specs.Layout.{slot_width}
 use Rattle.std.specs.Prelude.{if◌then◌else◌}
 use Rattle.rules.specs.Refusals.{refusal, first_failed, size_checks, limit, short_sheet, bad_counts, not_four_each, paint_answer}
 use Rattle.rules.proofs.Accepted.{passed, neither, long-sheet, good-counts, good-size, failed-later}
-use Rattle.refusal.proofs.Laws.{refused-number}
+use Rattle.refusal.proofs.Laws.{refused_number}
 use Rattle.refusal.specs.Refusal.{number_of}
 use Rattle.refusal.specs.declared.Refusal.{Refusal}
 
@@ -52,4 +52,4 @@ paint-number w h links table outputs picture n m = failed-later (size_checks w h
 pub refused-early : (r : Refusal) (w h links table outputs picture n m : ℕ)
     → number_of r ≡ first_failed (size_checks w h ++ (refusal 5 (short_sheet (w * h) links table outputs || bad_counts (w * h) n m) ∷ []))
     → number_of r ≡ paint_answer w h links table outputs picture n m
-refused-early r w h links table outputs picture n m e = rw (paint-number, ← e, refused-number r)
+refused-early r w h links table outputs picture n m e = rw (paint-number, ← e, refused_number r)

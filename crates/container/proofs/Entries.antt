@@ -19,7 +19,7 @@ use Rattle.rules.specs.Paint.{reads, slot_number, slot_residue, entry_answer, en
 use Rattle.rules.proofs.Accepted.{passed, neither}
 use Rattle.refusal.specs.Refusal.{number_of}
 use Rattle.refusal.specs.declared.Refusal.{Refusal}
-use Rattle.refusal.proofs.Laws.{refused-number}
+use Rattle.refusal.proofs.Laws.{refused_number}
 use Rattle.container.specs.declared.paint.Stretch.{Stretch}
 use Rattle.container.specs.declared.checked.Sheet.{Sheet}
 use Rattle.container.specs.Code.Checked as of_sheet
@@ -78,7 +78,7 @@ module _ (size n : ℕ) (links table : List ℕ) where
 
   pub entries-refused : (entries before : List ℕ) (k : ℕ) (r : Refusal) → entries ≡ before ++ k ∷ [] → number_of r ≡ entry_answer size n links table k
       → number_of r ≡ entries_answer size n links table entries (length entries)
-  entries-refused entries before k r l e = rw (l, entries_last before k, ← e, refused-number r)
+  entries-refused entries before k r l e = rw (l, entries_last before k, ← e, refused_number r)
 
   pub entries-go_on : (entries before : List ℕ) (k : ℕ) → entries ≡ before ++ k ∷ [] → 0 ≡ entry_answer size n links table k
       → entries_answer size n links table entries (length entries) ≡ entries_answer size n links table before (length before)

@@ -19,7 +19,7 @@ use Rattle.container.specs.Code.Covered.{Whole}
 use Rattle.container.specs.Code.Quick.{ListPasses}
 use Rattle.refusal.specs.Refusal.{number_of}
 use Rattle.refusal.specs.declared.Refusal.{Refusal}
-use Rattle.refusal.proofs.Laws.{refused-number}
+use Rattle.refusal.proofs.Laws.{refused_number}
 use Rattle.container.proofs.Leads.{leads-reads}
 use Rattle.container.proofs.Entries.{back-turn, back-each, entries-cut, times-cut}
 use Rattle.container.proofs.Covered.{whole-fill}
@@ -41,7 +41,7 @@ whole-passes {size} {links} {table} {entries} W i l b =
 pub refused : (size n m : ℕ) (links table outputs given : List ℕ) (r : Refusal) → number_of r ≡ entries_answer size n links table outputs m
     → ◌≡◌ {A = Painted} (record { answer = number_of r; picture = given }) (painting size n m links table outputs given)
 unfolding painting
-refused size n m links table outputs given r e = rw (← e, refused-number r)
+refused size n m links table outputs given r e = rw (← e, refused_number r)
 
 -- all entries over zeros
 pub over_zeros : (size n : ℕ) (links table entries given : List ℕ) → entries_answer size n links table entries (length entries) ≡ 0

@@ -8,20 +8,20 @@ use Rattle.refusal.specs.declared.Refusal.TheVariants.{LargeNumber, DestinationL
 use Rattle.refusal.specs.Refusal.{number_of}
 
 -- a refusal is no acceptance
-pub refused-number : (r : Refusal) → nat_eq (number_of r) 0 ≡ false
-refused-number Shift = refl
-refused-number NoPixels = refl
-refused-number TooManyPixels = refl
-refused-number ImageLength = refl
-refused-number BufferLength = refl
-refused-number PictureLength = refl
-refused-number SumTooLarge = refl
-refused-number NoSlot = refl
-refused-number NoAverage = refl
-refused-number BadList = refl
-refused-number NoRow = refl
-refused-number LargeNumber = refl
-refused-number DestinationLength = refl
+pub refused_number : (r : Refusal) → nat_eq (number_of r) 0 ≡ false
+refused_number Shift = refl
+refused_number NoPixels = refl
+refused_number TooManyPixels = refl
+refused_number ImageLength = refl
+refused_number BufferLength = refl
+refused_number PictureLength = refl
+refused_number SumTooLarge = refl
+refused_number NoSlot = refl
+refused_number NoAverage = refl
+refused_number BadList = refl
+refused_number NoRow = refl
+refused_number LargeNumber = refl
+refused_number DestinationLength = refl
 
 pub refused-ne0 : (r : Refusal) → number_of r ≡ 0 → ⊥
-refused-ne0 r e = true≢false (sym (eq-eqb _ _ e) ∙ refused-number r)
+refused-ne0 r e = true≢false (sym (eq-eqb _ _ e) ∙ refused_number r)

@@ -52,6 +52,7 @@ pub struct RunnerConfig {
 }
 
 // Clusters the pixels of the image into the buffers. A call that is refused changes nothing.
+#[tactic(auto, unfolding(rules::specs::Calls::run_call), using(refusal::proofs::Laws::refused_number))]
 pub fn run(
     o: RunnerConfig,
     size: Size,

@@ -8,7 +8,7 @@ use native.Mathlib.Omega.{arith}
 use borrow.Author.Tests.{leb-false, ltb-false}
 use Rattle.std.specs.Prelude.{Result, Ok, Err}
 use Rattle.std.specs.Result.{is_err}
-use Rattle.refusal.proofs.Laws.{refused-number}
+use Rattle.refusal.proofs.Laws.{refused_number}
 use Rattle.refusal.specs.Refusal.{answer_of}
 use Rattle.refusal.specs.declared.Refusal.{Refusal}
 use lib.Dec.{leb, ltb, eqb}
@@ -19,7 +19,7 @@ use Rattle.sheet.specs.Code.Lengths.{CanStore}
 -- an answer that is an error is not 0, and one that is none is 0
 pub error-number : {A : Type 0} (r : Result A Refusal) → is_err r ≡ true → eqb (answer_of r) 0 ≡ false
 error-number (Ok x) e = cc
-error-number (Err x) e = refused-number x
+error-number (Err x) e = refused_number x
 
 pub accepted-number : {A : Type 0} (r : Result A Refusal) → is_err r ≡ false → answer_of r ≡ 0
 accepted-number (Ok x) e = refl
@@ -77,4 +77,4 @@ module _ (w h labels links table outputs n m : ℕ) where
 -- what the functions cite
 pub ruleset row_laws = (row-accepted, error-number, accepted-number)
 
-pub ruleset store_laws = (store-accepted, refused-number)
+pub ruleset store_laws = (store-accepted, refused_number)

@@ -1,6 +1,6 @@
 use Rattle.std.proofs.Common.{◌≡◌, refl, ap₂, rules, eq-eqb, Err}
 use Rattle.std.proofs.Common.{ne_eqb}
-use Rattle.refusal.proofs.Laws.{refused-number}
+use Rattle.refusal.proofs.Laws.{refused_number}
 use Rattle.rules.specs.Calls.{answered, with_picture, run_number, run_and_paint_number, run_and_paint_call}
 use Rattle.rules.proofs.Accepted.{run-and-paint-number}
 use Rattle.rules.proofs.Left.{run-and-paint-left}
@@ -23,7 +23,7 @@ pub returns-in_err-pixels-clause-call : goal.returns-in_err-pixels-clause-call
 unfolding run_number run_and_paint_number run_and_paint_call
 returns-in_err-pixels-clause-call c =
     let f : c.from_residual.result ≡ Err c.in_err-pixels.field-0.0 = search rules in
-    let n = refused-number c.in_err-pixels.field-0.0 in
+    let n = refused_number c.in_err-pixels.field-0.0 in
     rw (f, run-and-paint-number, ← c.in_err-pixels.ensures.answer, n, n) refl
 
 pub returns-then-picture-pixels-clause-call : goal.returns-then-picture-pixels-clause-call

@@ -4,7 +4,7 @@ use lib.ListN.{length}
 use Rattle.rules.specs.Refusals.{paint_answer}
 use Rattle.rules.specs.Calls.{paint_call}
 use Rattle.refusal.specs.Refusal.{number_of, answer_of}
-use Rattle.refusal.proofs.Laws.{refused-number}
+use Rattle.refusal.proofs.Laws.{refused_number}
 use Rattle.container.proofs.Pictures.{sheet-painting}
 use Rattle.container.proofs.to_color_image.Goals as goal
 
@@ -12,7 +12,7 @@ pub returns-in_err-checked : goal.returns-in_err-checked
 unfolding paint_call
 returns-in_err-checked c =
     let e : answer_of c.from_residual.result ≡ number_of c.in_err-checked.field-0.0 = search rules in
-    rw (e, ← c.in_err-checked.ensures.answer, refused-number)
+    rw (e, ← c.in_err-checked.ensures.answer, refused_number)
 
 pub returns : goal.returns
 unfolding paint_call
