@@ -144,7 +144,8 @@ pub record Deepening (o : RunnerConfig) (w h : ℕ) (image t₀ L K B E Q M S : 
   pub deepens : rules.deepens o w h (queue_at o w h image t.turns).now k near.target ≡ true
 
 -- and it was visited: the buffers hold what the visit made of the state, with the pending slots after it
-pub record Visited (o : RunnerConfig) (w h : ℕ) (image t₀ L K B E Q M S : List ℕ) (n : ℕ) (t r : Turns) (k : ℕ) : Type 0 where
+pub record Visited (o : RunnerConfig) (w h : ℕ) (image t₀ L K B E Q M S : List ℕ) (n : ℕ) (t r : Turns) (k : ℕ)
+    : Type 0 where
   pub carried : Carried (w * h) (visit_at o w h image t.turns k)
       (order.rekey k (queue_at o w h image t.turns).now (visit_at o w h image t.turns k)
       (queue_at o w h image t.turns).keys) t₀ L K B E Q M S n r.m (t.turns + 1)
