@@ -25,6 +25,7 @@ pub(crate) fn color_at(image: &[u8], i: u32) -> Color
 }
 
 // Whether keying is on: the key is not (0,0,0,0).
+#[tactic(auto, unfolding(rules::specs::Color::keying_on))]
 pub(crate) fn keying_on(o: RunnerConfig) -> bool
     ensures { result ≡ keying_on (config_of o) }
 {
@@ -45,6 +46,7 @@ pub(crate) fn is_discard(o: RunnerConfig) -> bool
 }
 
 // Whether a pixel of colour c is a key pixel: it has the key colour, with keying on.
+#[tactic(auto, unfolding(rules::specs::Stage1::is_key))]
 pub(crate) fn is_key_color(o: RunnerConfig, c: Color) -> bool
     ensures { (image : List ℕ) (i : ℕ) → color_of c ≡ pixel image i → result ≡ is_key (config_of o) image i }
 {
