@@ -17,7 +17,7 @@ use Rattle.rules.specs.Base.{up_to, none_above}
 use Rattle.rules.specs.Layout.{first_pixel_place, pixel_count_place}
 use Rattle.rules.specs.Paint.{slot_number}
 use Rattle.rules.specs.Stored.{is_large, two_bytes, stored_bytes, pixel_numbers, slot_numbers, stored_numbers}
-use Rattle.std.proofs.lemmas.List.{take_all}
+use Rattle.std.proofs.lemmas.List.{take_all, take_more}
 use Rattle.refusal.proofs.Laws.{refused_number}
 use Rattle.sheet.proofs.Accepted.{buffers-accepted}
 use Rattle.rules.proofs.Accepted.{neither}
@@ -115,13 +115,10 @@ module _ (f g : ℕ → ℕ) where
 -- ---- the first entries of a list
 
 module _ (xs : List ℕ) (i : ℕ) (l : i < length xs) where
-  take_more : take (i + 1) xs ≡ take i xs ++ (get_or xs i 0 ∷ [])
-  take_more = rw (add-one i) (take-suc xs i 0 l)
-
   -- one turn of a loop that writes them
   pub take_put : (d₀ d : List ℕ) → d ≡ sets d₀ 0 (stored_bytes (take i xs)) → sets d (2 * i) (two_bytes (get_or xs i 0)) ≡ sets d₀ 0 (stored_bytes (take (i + 1) xs))
   unfolding stored_bytes
-  take_put d₀ d e = bytes-more d₀ d (take i xs) _ 0 (2 * i) e (omega (arith, length-take i xs)) ∙ ap (λ r. sets d₀ 0 (stored_bytes r)) (sym take_more)
+  take_put d₀ d e = bytes-more d₀ d (take i xs) _ 0 (2 * i) e (omega (arith, length-take i xs)) ∙ ap (λ r. sets d₀ 0 (stored_bytes r)) (sym (take_more xs i 0 l))
 
 -- the numbers of pixels are those of two lists
 pub two-lists : (xs ys : List ℕ) (n : ℕ) → n ≤ length xs → n ≤ length ys
