@@ -1,10 +1,11 @@
 -- What the passed checks of painting show. Assumes nothing.
 use mathlib.Core.Path.{◌≡◌}
+use mathlib.Core.Logic.{◌≢◌}
 use mathlib.Core.Bool.{◌||◌}
 use mathlib.Core.List.{[], ◌∷◌, ◌++◌}
 use Prim.Native.Nat.{ℕ, ◌*◌, ◌≤◌, ◌<◌}
 use native.Mathlib.Omega.{arith}
-use borrow.Author.Tests.{eqb-true, not-false, ltb-false}
+use borrow.Author.Tests.{eq-eqb, ne_eqb, eqb-true, not-false, ltb-false}
 use lib.Dec.{eqb, ltb}
 use Rattle.rules.specs.Layout.{slot_width}
 use Rattle.std.specs.Prelude.{if◌then◌else◌}
@@ -43,13 +44,23 @@ can-paint w h links table outputs picture n m e =
       picture-fits = eqb-true _ _ (not-false _ c6.0);
     }
 
--- check 6, where the earlier ones pass
-pub paint-number : (w h links table outputs picture n m : ℕ) → paint_answer w h links table outputs picture n m
-    ≡ (let early = first_failed (size_checks w h ++ (refusal 5 (short_sheet (w * h) links table outputs || bad_counts (w * h) n m) ∷ [])) in if eqb early 0 then first_failed (refusal 6 (not_four_each w h picture) ∷ []) else early)
-unfolding paint_answer
-paint-number w h links table outputs picture n m = failed-later (size_checks w h ++ (refusal 5 (short_sheet (w * h) links table outputs || bad_counts (w * h) n m) ∷ [])) (refusal 6 (not_four_each w h picture) ∷ []) tt
+module _ (w h links table outputs picture n m : ℕ) where
+  -- the answer of the checks before check 6
+  abbrev early : ℕ
+  early = first_failed (size_checks w h ++ (refusal 5 (short_sheet (w * h) links table outputs || bad_counts (w * h) n m) ∷ []))
 
-pub refused-early : (r : Refusal) (w h links table outputs picture n m : ℕ)
-    → number_of r ≡ first_failed (size_checks w h ++ (refusal 5 (short_sheet (w * h) links table outputs || bad_counts (w * h) n m) ∷ []))
-    → number_of r ≡ paint_answer w h links table outputs picture n m
-refused-early r w h links table outputs picture n m e = rw (paint-number, ← e, refused-number r)
+  -- then check 6
+  check_6 : paint_answer w h links table outputs picture n m ≡ (if eqb early 0 then first_failed (refusal 6 (not_four_each w h picture) ∷ []) else early)
+  unfolding paint_answer
+  check_6 = failed-later (size_checks w h ++ (refusal 5 (short_sheet (w * h) links table outputs || bad_counts (w * h) n m) ∷ [])) (refusal 6 (not_four_each w h picture) ∷ []) tt
+
+  pub refused-early : (r : Refusal) → number_of r ≡ early → number_of r ≡ paint_answer w h links table outputs picture n m
+  refused-early r e = rw (check_6, ← e, refused-number r)
+
+  pub refused-picture : (size : ℕ) → size ≡ w * h → 0 ≡ early → picture ≢ 4 * size → 6 ≡ paint_answer w h links table outputs picture n m
+  refused-picture size s e d = rw (check_6, ← e, ← s, ne_eqb picture (4 * size) d)
+
+  pub accepted : (size : ℕ) → size ≡ w * h → 0 ≡ early → picture ≡ 4 * size → 0 ≡ paint_answer w h links table outputs picture n m
+  accepted size s e f = rw (check_6, ← e, ← s, eq-eqb picture (4 * size) f)
+
+pub ruleset answers = (refused-early, refused-picture, accepted)

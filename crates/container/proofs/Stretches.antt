@@ -5,7 +5,8 @@ use mathlib.Core.List.{List, [], ◌∷◌, ◌++◌}
 use Prim.Native.Nat.{ℕ, zero, suc, ◌+◌, ◌*◌, ◌-◌, ◌/◌, ◌≤◌, ◌<◌}
 use native.Mathlib.Decide.{ℕ_discrete}
 use native.Mathlib.Omega.{arith}
-use lib.Dec.{T}
+use lib.Dec.{T, eqb, ltb}
+use mathlib.Core.Bool.{false, ◌||◌}
 use lib.ListN.{length, get_or, set}
 use lib.Seq.{sets, set_comm}
 use Rattle.rules.specs.Base.{each}
@@ -13,7 +14,7 @@ use Rattle.rules.specs.Color.{Color}
 use Rattle.rules.specs.Layout.{walk}
 use Rattle.rules.specs.Picture.{paint_pixel}
 use Rattle.rules.specs.Paint.{reads}
-use Rattle.rules.proofs.Walks.{step, walk_none}
+use Rattle.rules.proofs.Walks.{step, walk_none, reads-turn}
 use Rattle.container.specs.Code.Leads.{Leads}
 use Rattle.container.specs.Code.Stretch.{paint_along}
 use Rattle.container.proofs.Leads.{leads-on, leads-more, leads-reads, reads-leads, leads-walk}
@@ -148,3 +149,17 @@ module _ (size : ℕ) (links : List ℕ) (u n : ℕ) where
       let s = step size links v (n - i) (omega arith) g.rest in
       let e : (n - i) - 1 ≡ n - (i + 1) = omega arith in
       record { gone = leads-more size links i u v g.gone s.some s.within; rest = rw e at s.rest }
+
+-- a stretch is gone along
+pub ruleset going = (going-on, going-turn, both-none, both-turn)
+
+pub ruleset half = (reads-half)
+
+module _ (size : ℕ) (links : List ℕ) where
+  -- one pixel of a list is read, and then the rest
+  pub reads-turned : (at n i : ℕ) → i < n → (eqb at 0 || ltb size at) ≡ false → reads size links (get_or links (at - 1) 0) (n - (i + 1)) ≡ reads size links at (n - i)
+  reads-turned at n i l t =
+      let e : n - i - 1 ≡ n - (i + 1) = omega arith in
+      rw (reads-turn size links at (n - i) (omega arith), t, e)
+
+pub ruleset reads_on = (reads-turned)

@@ -40,6 +40,7 @@ impl Sheet<'_> {
     }
 
     // Paints count pixels from the first place and count from the second, while all of them go count links on.
+    #[tactic(auto, using(crate::proofs::Stretches::going))]
     fn paint_two<const N: usize>(
         self,
         picture: &mut [u8],
