@@ -120,7 +120,7 @@ impl Sheet<'_> {
     }
 
     // Paints the cluster of slot k, whose middle is mid, with its residue average, and answers where ahead ends.
-    #[tactic(auto, unfolding(rules::specs::Paint::paint_slot, rules::specs::Paint::slot_pixels, crate::specs::Code::Stretch::paint_along))]
+    #[tactic(auto, unfolding(rules::specs::Paint::paint_slot, crate::specs::Code::Stretch::paint_along))]
     fn render_to_color_image(self, picture: &mut [u8], k: u32, mid: u32, ahead: Stretch) -> u32
         requires long { 4 * self.size ≤ length picture.old }
         requires passed { Passed self k }
