@@ -5,7 +5,7 @@ use mathlib.Core.Bool.{◌||◌}
 use mathlib.Core.List.{[], ◌∷◌, ◌++◌}
 use Prim.Native.Nat.{ℕ, ◌*◌, ◌≤◌, ◌<◌}
 use native.Mathlib.Omega.{arith}
-use borrow.Author.Tests.{eq-eqb, ne_eqb, eqb-true, not-false, ltb-false}
+use borrow.Author.Tests.{eq-eqb, ne_eqb, ltb-false}
 use lib.Dec.{eqb, ltb}
 use Rattle.rules.specs.Layout.{slot_width}
 use Rattle.std.specs.Prelude.{if◌then◌else◌}
@@ -15,23 +15,20 @@ use Rattle.refusal.proofs.Laws.{refused-number}
 use Rattle.refusal.specs.Refusal.{number_of}
 use Rattle.refusal.specs.declared.Refusal.{Refusal}
 
--- what a sheet and its picture must have; links, table, outputs and picture are lengths
-pub record CanPaint (size n m links table outputs picture : ℕ) : Type 0 where
+-- what a sheet must have; links and table are lengths
+pub record CanPaint (size n links table : ℕ) : Type 0 where
   pub some : 0 < size
   pub small : size ≤ limit
   pub links-fit : size ≤ links
   pub table_fits : slot_width * n ≤ table
-  pub outputs-fit : m ≤ outputs
-  pub picture-fits : picture ≡ 4 * size
 
 -- the checks before the entries are passed
-pub can-paint : (w h links table outputs picture n m : ℕ) → paint_answer w h links table outputs picture n m ≡ 0 → CanPaint (w * h) n m links table outputs picture
+pub can-paint : (w h links table outputs picture n m : ℕ) → paint_answer w h links table outputs picture n m ≡ 0 → CanPaint (w * h) n links table
 unfolding paint_answer
 can-paint w h links table outputs picture n m e =
     let c2 = passed 1 (eqb w 0 || eqb h 0) _ e in
     let c3 = passed 2 (ltb limit (w * h)) _ c2.1 in
     let c5 = passed 4 (short_sheet (w * h) links table outputs || bad_counts (w * h) n m) _ c3.1 in
-    let c6 = passed 5 (not_four_each w h picture) 0 c5.1 in
     let l = neither (short_sheet (w * h) links table outputs) (bad_counts (w * h) n m) c5.0 in
     let long = long-sheet (w * h) links table outputs l.0 in
     let counts = good-counts (w * h) n m l.1 in
@@ -40,8 +37,6 @@ can-paint w h links table outputs picture n m e =
       small = ltb-false limit (w * h) c3.0;
       links-fit = long.0;
       table_fits = omega (arith, long.1, counts.0);
-      outputs-fit = omega (arith, long.2, counts.1);
-      picture-fits = eqb-true _ _ (not-false _ c6.0);
     }
 
 module _ (w h links table outputs picture n m : ℕ) where
@@ -63,4 +58,5 @@ module _ (w h links table outputs picture n m : ℕ) where
   pub accepted : (size : ℕ) → size ≡ w * h → 0 ≡ early → picture ≡ 4 * size → 0 ≡ paint_answer w h links table outputs picture n m
   accepted size s e f = rw (check_6, ← e, ← s, eq-eqb picture (4 * size) f)
 
+-- what the checks before the entries answer
 pub ruleset answers = (refused-early, refused-picture, accepted)

@@ -31,6 +31,7 @@ lane-takes table outputs x y at n h l e f = record {
 pub lane-passes : (table outputs : List ℕ) (x : Lane) → LanePasses table outputs x x
 lane-passes table outputs x = record { rest = λ size links r. r; taken = λ size links r m p. p }
 
+-- a lane is filled
 pub ruleset takes = (lane-takes, lane-passes)
 
 -- lane i is filled
@@ -68,8 +69,6 @@ quick_to size n links table outputs (suc i) p r =
     rw (entry_zero size n links table _ (p i (omega arith)) (r i (omega arith))) (quick_to size n links table outputs i (λ j l. p j (omega arith)) (λ j l. r j (omega arith)))
 
 -- entries that pass both answer 0
-pub quick-zero : (size n : ℕ) (links table outputs : List ℕ) → All (NumbersPass size n table) outputs
+pub quick_zero : (size n : ℕ) (links table outputs : List ℕ) → All (NumbersPass size n table) outputs
     → ((i : ℕ) → i < length outputs → ListPasses size links table (get_or outputs i 0)) → entries_answer size n links table outputs (length outputs) ≡ 0
-quick-zero size n links table outputs p r = quick_to size n links table outputs (length outputs) (λ i l. p i 0 l) r
-
-pub ruleset passes = (quick-zero)
+quick_zero size n links table outputs p r = quick_to size n links table outputs (length outputs) (λ i l. p i 0 l) r

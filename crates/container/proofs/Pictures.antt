@@ -72,10 +72,13 @@ pub sheet-painting : (a : Clusters) (bytes : ℕ) (s : Sheet) (given : List ℕ)
 sheet-painting a bytes s given h =
     rw (h.m, h.outputs, h.size, h.n, h.links, h.table) (painting-cut (a.size.w * a.size.h) a.counts.n a.counts.m a.links.now a.table.now a.outputs.now given)
 
-pub ruleset over_zero = (over_zeros, sheet-pass)
+-- the entries of a sheet that pass, over zeros
+pub ruleset paints_all = (over_zeros, sheet-pass)
 
-pub ruleset over_last_one = (over_last, sheet-pass, first-pass)
+-- and the others over the last one
+pub ruleset paints_others = (over_last, sheet-pass, first-pass)
 
+-- an entry that fails, and lists that need no check
 pub ruleset refuses = (refused, whole-passes)
 
 -- the call is refused before any entry is checked
@@ -90,4 +93,5 @@ pub call-painted : (a : Clusters) (s : Sheet) (given : List ℕ) (x : Painted) �
 unfolding paint_call
 call-painted a s given x e h p = rw (sym e) (p ∙ sheet-painting a (length given) s given h)
 
+-- what the call answers
 pub ruleset calls = (call-refused, call-painted)

@@ -128,8 +128,8 @@ module _ (size : ℕ) (links : List ℕ) where
       subst (λ x. T (reads size links x b)) (leads-same a u q.0 v q.1 e) (rw z at (leads-reads size links b 0 q.0 w.0 w.1 tt))
 
   -- and so can the first half
-  pub reads-half : (n u : ℕ) → T (reads size links u n) → T (reads size links u (n / 2))
-  reads-half n u r = reads-part n 0 (n / 2) u u (omega arith) refl r
+  pub reads_half : (n u : ℕ) → T (reads size links u n) → T (reads size links u (n / 2))
+  reads_half n u r = reads-part n 0 (n / 2) u u (omega arith) refl r
 
   -- a links and then the rest of n
   pub leads-rest : (n a u v w : ℕ) → a ≤ n → Leads size links u a v → Leads size links v (n - a) w → Leads size links u n w
@@ -153,13 +153,9 @@ module _ (size : ℕ) (links : List ℕ) (u n : ℕ) where
 -- a stretch is gone along
 pub ruleset going = (going-on, going-turn, both-none, both-turn)
 
-pub ruleset half = (reads-half)
-
 module _ (size : ℕ) (links : List ℕ) where
   -- one pixel of a list is read, and then the rest
-  pub reads-turned : (at n i : ℕ) → i < n → (eqb at 0 || ltb size at) ≡ false → reads size links (get_or links (at - 1) 0) (n - (i + 1)) ≡ reads size links at (n - i)
-  reads-turned at n i l t =
+  pub reads_turned : (at n i : ℕ) → i < n → (eqb at 0 || ltb size at) ≡ false → reads size links (get_or links (at - 1) 0) (n - (i + 1)) ≡ reads size links at (n - i)
+  reads_turned at n i l t =
       let e : n - i - 1 ≡ n - (i + 1) = omega arith in
       rw (reads-turn size links at (n - i) (omega arith), t, e)
-
-pub ruleset reads_on = (reads-turned)

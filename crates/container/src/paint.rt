@@ -46,7 +46,7 @@ impl Sheet<'_> {
     }
 
     // Whether the pixels of a stretch can be listed: no link is 0 or above size.
-    #[tactic(auto, using(crate::proofs::Stretches::reads_on))]
+    #[tactic(auto, using(crate::proofs::Stretches::reads_turned))]
     pub(crate) fn is_listed(self, stretch: Stretch) -> bool
         ensures { result ≡ rules.reads self.entry.size self.entry.links.now stretch.first stretch.count }
     {
@@ -103,7 +103,7 @@ impl Sheet<'_> {
     }
 
     // The first half of the list of the last entry; nothing where there is none.
-    #[tactic(auto, using(crate::proofs::Stretches::half))]
+    #[tactic(auto, using(crate::proofs::Stretches::reads_half))]
     fn first_half(self, entries: &[u32]) -> Stretch
         requires { EntriesPass self entries.now }
         ensures half { FirstHalf self.entry.table.now entries.now result }

@@ -15,7 +15,7 @@ use refusal::Refusal;
 
 impl Numbered<'_> {
     // Checks the entries, whose lists pass from entry `rest` on.
-    #[tactic(auto, using(crate::proofs::Passes::passes))]
+    #[tactic(auto, using(crate::proofs::Passes::quick_zero))]
     fn check_lists(self, rest: usize) -> Result<(), Refusal>
         requires rest { rest ≤ length self.sheet.outputs.now }
         requires lists { let s = self.sheet in (i : ℕ) → rest ≤ i → i < length s.outputs.now
@@ -43,7 +43,7 @@ impl Numbered<'_> {
 
 impl Sheet<'_> {
     // Paints the entries over zeros.
-    #[tactic(auto, using(crate::proofs::Pictures::over_zero))]
+    #[tactic(auto, using(crate::proofs::Pictures::paints_all))]
     fn paint_over_zeros(self, picture: &mut [u8])
         requires long { length picture.old ≡ 4 * self.size }
         requires passed { entries_answer self ≡ 0 }
@@ -54,7 +54,7 @@ impl Sheet<'_> {
     }
 
     // Paints the other entries over the last one, which is all pixels.
-    #[tactic(auto, using(crate::proofs::Pictures::over_last_one))]
+    #[tactic(auto, using(crate::proofs::Pictures::paints_others))]
     fn paint_over_last(self, picture: &mut [u8])
         requires long { length picture.old ≡ 4 * self.size }
         requires passed { entries_answer self ≡ 0 }

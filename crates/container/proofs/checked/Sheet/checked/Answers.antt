@@ -7,6 +7,6 @@ pub invariant_of-result : goal.invariant_of-result
 invariant_of-result c = let s = c.args.clusters in
     let size = c.in_ok-size.ensures in
     let e = accepted s.size.w s.size.h _ _ _ _ _ _ c.in_ok-size.size size.pixels size.answer c.if-picture-size.false in
-    let p : CanPaint c.in_ok-size.size s.counts.n s.counts.m (length s.links.now) (length s.table.now) (length s.outputs.now) c.args.picture =
+    let p : CanPaint c.in_ok-size.size s.counts.n (length s.links.now) (length s.table.now) =
     rw size.pixels (can-paint s.size.w s.size.h _ _ _ _ _ _ (sym e)) in
     record { some = p.some; small = p.small; links_fit = p.links-fit; table_fits = p.table_fits }
