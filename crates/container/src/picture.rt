@@ -1,11 +1,8 @@
 // The picture: the quick checks, the plain one where they do not decide, and then the entries.
-ghost use Rattle.std.specs.Prelude.{◌≡◌, true, ℕ, ◌*◌, ◌≤◌, ◌<◌, T, length, get_or};
-ghost use Rattle.rules.specs.Color.{has_average, average};
-ghost use Rattle.rules.specs.Paint.{slot_residue};
+ghost use Rattle.std.specs.Prelude.{◌≡◌, true, ℕ, ◌*◌, ◌≤◌, ◌<◌, length, get_or};
 ghost use Rattle.refusal.specs.Refusal.{answer_of};
 ghost use Rattle.container.specs.Code.Checked.{entries_answer, painting};
 ghost use Rattle.container.specs.Code.Quick.{ListPasses};
-ghost use Rattle.container.specs.Code.Uniform.{uniform};
 ghost use Rattle.container.specs.Code.Covered.{Whole};
 
 use crate::checked::Sheet;
