@@ -23,7 +23,7 @@ use Rattle.refusal.proofs.Laws.{refused_number}
 use Rattle.container.specs.declared.paint.Stretch.{Stretch}
 use Rattle.container.specs.declared.checked.Sheet.{Sheet}
 use Rattle.container.specs.Code.Checked as of_sheet
-use Rattle.container.specs.Code.Checked.{EntriesPass}
+use Rattle.container.specs.Code.Checked.{Passed, EntriesPass}
 use Rattle.container.specs.Code.Leads.{Leads}
 use Rattle.container.specs.Code.Stretch.{FirstHalf}
 use Rattle.rules.specs.Layout.{first_pixel_place, pixel_count_place}
@@ -85,7 +85,7 @@ module _ (size n : ℕ) (links table : List ℕ) where
   entries-go_on entries before k l e = rw (l, entries_last before k, ← e)
 
   -- where all pass, each passes
-  pub entries-pass : (entries : List ℕ) (m : ℕ) → entries_answer size n links table entries m ≡ 0 → (i : ℕ) → i < m → entry_answer size n links table (get_or entries i 0) ≡ 0
+  entries-pass : (entries : List ℕ) (m : ℕ) → entries_answer size n links table entries m ≡ 0 → (i : ℕ) → i < m → entry_answer size n links table (get_or entries i 0) ≡ 0
   unfolding entries_answer
   entries-pass entries zero e i l = absurd (not-suc-le-zero l)
   entries-pass entries (suc j) e i l = go (eqb (at j) 0) refl e (entries-pass entries j) (ℕ_discrete i j)
@@ -98,20 +98,15 @@ module _ (size n : ℕ) (links table : List ℕ) where
       go true x y f (no d) = f y i (omega arith)
       go false x y f q = absurd (eqb-false _ 0 x y)
 
--- slot k has passed checks 8, 9 and 10
-pub record Passed (size n : ℕ) (links table : List ℕ) (k : ℕ) : Type 0 where
-  pub slot : k < n
-  pub average : T (has_average (slot_residue table k))
-  pub listed : T (reads size links (slot_number table k first_pixel_place) (slot_number table k pixel_count_place))
-
-pub entry-passed : (size n : ℕ) (links table : List ℕ) (k : ℕ) → entry_answer size n links table k ≡ 0 → Passed size n links table k
+entry-passed : (s : Sheet) (k : ℕ) → entry_answer s.size s.n s.links.now s.table.now k ≡ 0 → Passed s k
 unfolding entry_answer
-entry-passed size n links table k e =
-    let a = passed 7 (not (ltb k n)) _ e in
+entry-passed s k e =
+    let table = s.table.now in
+    let a = passed 7 (not (ltb k s.n)) _ e in
     let b = passed 8 (not (has_average (slot_residue table k))) _ a.1 in
-    let listed = reads size links (slot_number table k first_pixel_place) (slot_number table k pixel_count_place) in
-    let d = neither (not (leb (slot_number table k pixel_count_place) size)) (not listed) (passed 9 _ 0 b.1).0 in
-    record { slot = ltb→lt k n (holds (ltb k n) a.0); average = holds (has_average (slot_residue table k)) b.0; listed = holds listed d.1 }
+    let listed = reads s.size s.links.now (slot_number table k first_pixel_place) (slot_number table k pixel_count_place) in
+    let d = neither (not (leb (slot_number table k pixel_count_place) s.size)) (not listed) (passed 9 _ 0 b.1).0 in
+    record { slot = ltb→lt k s.n (holds (ltb k s.n) a.0); average = holds (has_average (slot_residue table k)) b.0; listed = holds listed d.1 }
   where
     holds : (b : Bool) → not b ≡ false → T b
     holds true x = tt
@@ -122,11 +117,15 @@ pub ruleset checks = (entries_none, entries-refused, entries-go_on)
 
 -- where the checks answer 0, each entry of the sheet passes
 pub sheet-pass : (s : Sheet) → of_sheet.entries_answer s ≡ 0 → EntriesPass s s.outputs.now
-sheet-pass s e k d l = rw (get_or_default_zero s.outputs.now k d l) (entries-pass s.size s.n s.links.now s.table.now s.outputs.now (length s.outputs.now) e k l)
+sheet-pass s e k d l = rw (get_or_default_zero s.outputs.now k d l) (entry-passed s _ (entries-pass s.size s.n s.links.now s.table.now s.outputs.now (length s.outputs.now) e k l))
 
 -- and so do those before an entry
 pub before-pass : (s : Sheet) (entries : List ℕ) (n : ℕ) → EntriesPass s entries → EntriesPass s (take n entries)
-before-pass s entries n h = All-take (λ k. entry_answer s.size s.n s.links.now s.table.now k ≡ 0) n entries h
+before-pass s entries n h = All-take (Passed s) n entries h
+
+-- each of the first of them too
+pub first-pass : (s : Sheet) (n : ℕ) → of_sheet.entries_answer s ≡ 0 → EntriesPass s (take n s.outputs.now)
+first-pass s n e = before-pass s s.outputs.now n (sheet-pass s e)
 
 -- mid is the middle of the list of the last entry, if there is one
 pub record Middle (size : ℕ) (links table entries : List ℕ) (mid : ℕ) : Type 0 where

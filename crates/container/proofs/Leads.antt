@@ -1,6 +1,8 @@
 -- Stretches of a list along the links, put together and read.
 use mathlib.Core.Path.{◌≡◌, refl, sym, ap}
-use mathlib.Core.List.{List, ◌∷◌, ◌++◌}
+use Rattle.std.specs.List.{All}
+use Rattle.std.proofs.lemmas.List.Elements.{All-cons, All-nil}
+use mathlib.Core.List.{List, [], ◌∷◌, ◌++◌}
 use Prim.Native.Nat.{ℕ, zero, suc, ◌+◌, ◌-◌, ◌≤◌, ◌<◌}
 use native.Mathlib.Nat.{not-suc-le-zero}
 use native.Mathlib.Numerals.{sub-one}
@@ -51,3 +53,10 @@ module _ (size : ℕ) (links : List ℕ) where
   leads-walk zero d u v e = rw (none-add d, e)
   leads-walk (suc c) d zero v e = absurd e
   leads-walk (suc c) d (suc p) v e = rw (suc-add c d) (ap (λ l. p ∷ l) (leads-walk c d (get_or links p 0) v e.1))
+
+-- a fact of each of two or three places
+pub all-two : (P : ℕ → Type 0) (x y : ℕ) → P x → P y → All P (x ∷ y ∷ [])
+all-two P x y a b = All-cons P x (y ∷ []) a (All-cons P y [] b (All-nil P))
+
+pub all-three : (P : ℕ → Type 0) (x y z : ℕ) → P x → P y → P z → All P (x ∷ y ∷ z ∷ [])
+all-three P x y z a b c = All-cons P x (y ∷ z ∷ []) a (all-two P y z b c)

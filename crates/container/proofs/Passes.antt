@@ -31,17 +31,20 @@ lane-takes table outputs x y at n h l e f = record {
 pub lane-passes : (table outputs : List ℕ) (x : Lane) → LanePasses table outputs x x
 lane-passes table outputs x = record { rest = λ size links r. r; taken = λ size links r m p. p }
 
+-- a lane is filled
 pub ruleset takes = (lane-takes, lane-passes)
 
 -- lane i is filled
 pub filled-turn : (size : ℕ) (links table outputs : List ℕ) (m i : ℕ) (x : Lanes) (y : Lane) → length x.at ≡ 4 → length x.count ≡ 4 → i < 4
     → LanePasses table outputs (record { at = get_or x.at i 0; count = get_or x.count i 0; left = x.left }) y
     → LanesPass size links table outputs m x → LanesPass size links table outputs m (record { at = set x.at i y.at; count = set x.count i y.count; left = y.left })
-filled-turn size links table outputs m i x y e f l h p r =
-    let a : i < length x.at = omega arith in
-    let b : i < length x.count = omega arith in
-    let q = rw (get_or-set_same, get_or-set_same) at (r i l) in
-    h.taken size links q m (p (λ j k. elim (ℕ_discrete j i) [ yes z ↦ rw z (h.rest size links q) | no d ↦ rw (get_or-set_other, get_or-set_other) at (r j k) ]))
+filled-turn size links table outputs m i x y e f l h p = record {
+  taken = λ r.
+      let a : i < length x.at = omega arith in
+      let b : i < length x.count = omega arith in
+      let q = rw (get_or-set_same, get_or-set_same) at (r i l) in
+      h.taken size links q m (p.taken (λ j k. elim (ℕ_discrete j i) [ yes z ↦ rw z (h.rest size links q) | no d ↦ rw (get_or-set_other, get_or-set_other) at (r j k) ]));
+}
 
 -- what is left of a list after n links is read with it
 pub walked-reads : (size : ℕ) (links : List ℕ) (at count n to : ℕ) → n ≤ count → Leads size links at n to → T (reads size links to (count - n)) → T (reads size links at count)
@@ -66,6 +69,6 @@ quick_to size n links table outputs (suc i) p r =
     rw (entry_zero size n links table _ (p i (omega arith)) (r i (omega arith))) (quick_to size n links table outputs i (λ j l. p j (omega arith)) (λ j l. r j (omega arith)))
 
 -- entries that pass both answer 0
-pub quick-zero : (size n : ℕ) (links table outputs : List ℕ) → All (NumbersPass size n table) outputs
+pub quick_zero : (size n : ℕ) (links table outputs : List ℕ) → All (NumbersPass size n table) outputs
     → ((i : ℕ) → i < length outputs → ListPasses size links table (get_or outputs i 0)) → entries_answer size n links table outputs (length outputs) ≡ 0
-quick-zero size n links table outputs p r = quick_to size n links table outputs (length outputs) (λ i l. p i 0 l) r
+quick_zero size n links table outputs p r = quick_to size n links table outputs (length outputs) (λ i l. p i 0 l) r

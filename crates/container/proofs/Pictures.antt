@@ -8,6 +8,8 @@ use lib.Seq.{take-length}
 use Rattle.std.proofs.lemmas.List.{get_or-take}
 use Rattle.rules.specs.Base.{each_back}
 use Rattle.rules.specs.Color.{average}
+use Rattle.rules.specs.Refusals.{paint_answer}
+use Rattle.rules.specs.Calls.{paint_call}
 use Rattle.rules.specs.Paint.{Painted, slot_number, slot_residue, slot_pixels, entries_answer, paint_slot, paint_entries, painting}
 use Rattle.rules.specs.Layout.{first_pixel_place, pixel_count_place}
 use Rattle.image.specs.declared.Clusters.{Clusters}
@@ -21,7 +23,7 @@ use Rattle.refusal.specs.Refusal.{number_of}
 use Rattle.refusal.specs.declared.Refusal.{Refusal}
 use Rattle.refusal.proofs.Laws.{refused_number}
 use Rattle.container.proofs.Leads.{leads-reads}
-use Rattle.container.proofs.Entries.{back-turn, back-each, entries-cut, times-cut}
+use Rattle.container.proofs.Entries.{back-turn, back-each, entries-cut, times-cut, sheet-pass, first-pass}
 use Rattle.container.proofs.Covered.{whole-fill}
 
 -- painting the last entry, where it is all pixels, fills the picture
@@ -69,3 +71,27 @@ pub sheet-painting : (a : Clusters) (bytes : ℕ) (s : Sheet) (given : List ℕ)
     → of_sheet.painting s given ≡ painting (a.size.w * a.size.h) a.counts.n a.counts.m a.links.now a.table.now a.outputs.now given
 sheet-painting a bytes s given h =
     rw (h.m, h.outputs, h.size, h.n, h.links, h.table) (painting-cut (a.size.w * a.size.h) a.counts.n a.counts.m a.links.now a.table.now a.outputs.now given)
+
+-- the entries of a sheet that pass, over zeros
+pub ruleset paints_all = (over_zeros, sheet-pass)
+
+-- and the others over the last one
+pub ruleset paints_others = (over_last, sheet-pass, first-pass)
+
+-- an entry that fails, and lists that need no check
+pub ruleset refuses = (refused, whole-passes)
+
+-- the call is refused before any entry is checked
+pub call-refused : (w h n m : ℕ) (links table outputs given : List ℕ) (r : Refusal) → number_of r ≡ paint_answer w h (length links) (length table) (length outputs) (length given) n m
+    → ◌≡◌ {A = Painted} (record { answer = number_of r; picture = given }) (paint_call w h links table outputs given n m)
+unfolding paint_call
+call-refused w h n m links table outputs given r e = rw (← e, refused_number r)
+
+-- or its sheet is painted
+pub call-painted : (a : Clusters) (s : Sheet) (given : List ℕ) (x : Painted) → 0 ≡ paint_answer a.size.w a.size.h (length a.links.now) (length a.table.now) (length a.outputs.now) (length given) a.counts.n a.counts.m
+    → IsSheetOf a (length given) s → x ≡ of_sheet.painting s given → x ≡ paint_call a.size.w a.size.h a.links.now a.table.now a.outputs.now given a.counts.n a.counts.m
+unfolding paint_call
+call-painted a s given x e h p = rw (sym e) (p ∙ sheet-painting a (length given) s given h)
+
+-- what the call answers
+pub ruleset calls = (call-refused, call-painted)

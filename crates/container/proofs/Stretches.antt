@@ -5,7 +5,8 @@ use mathlib.Core.List.{List, [], ◌∷◌, ◌++◌}
 use Prim.Native.Nat.{ℕ, zero, suc, ◌+◌, ◌*◌, ◌-◌, ◌/◌, ◌≤◌, ◌<◌}
 use native.Mathlib.Decide.{ℕ_discrete}
 use native.Mathlib.Omega.{arith}
-use lib.Dec.{T}
+use lib.Dec.{T, eqb, ltb}
+use mathlib.Core.Bool.{false, ◌||◌}
 use lib.ListN.{length, get_or, set}
 use lib.Seq.{sets, set_comm}
 use Rattle.rules.specs.Base.{each}
@@ -13,7 +14,7 @@ use Rattle.rules.specs.Color.{Color}
 use Rattle.rules.specs.Layout.{walk}
 use Rattle.rules.specs.Picture.{paint_pixel}
 use Rattle.rules.specs.Paint.{reads}
-use Rattle.rules.proofs.Walks.{step, walk_none}
+use Rattle.rules.proofs.Walks.{step, walk_none, reads-turn}
 use Rattle.container.specs.Code.Leads.{Leads}
 use Rattle.container.specs.Code.Stretch.{paint_along}
 use Rattle.container.proofs.Leads.{leads-on, leads-more, leads-reads, reads-leads, leads-walk}
@@ -127,8 +128,8 @@ module _ (size : ℕ) (links : List ℕ) where
       subst (λ x. T (reads size links x b)) (leads-same a u q.0 v q.1 e) (rw z at (leads-reads size links b 0 q.0 w.0 w.1 tt))
 
   -- and so can the first half
-  pub reads-half : (n u : ℕ) → T (reads size links u n) → T (reads size links u (n / 2))
-  reads-half n u r = reads-part n 0 (n / 2) u u (omega arith) refl r
+  pub reads_half : (n u : ℕ) → T (reads size links u n) → T (reads size links u (n / 2))
+  reads_half n u r = reads-part n 0 (n / 2) u u (omega arith) refl r
 
   -- a links and then the rest of n
   pub leads-rest : (n a u v w : ℕ) → a ≤ n → Leads size links u a v → Leads size links v (n - a) w → Leads size links u n w
@@ -148,3 +149,13 @@ module _ (size : ℕ) (links : List ℕ) (u n : ℕ) where
       let s = step size links v (n - i) (omega arith) g.rest in
       let e : (n - i) - 1 ≡ n - (i + 1) = omega arith in
       record { gone = leads-more size links i u v g.gone s.some s.within; rest = rw e at s.rest }
+
+-- a stretch is gone along
+pub ruleset going = (going-on, going-turn, both-none, both-turn)
+
+module _ (size : ℕ) (links : List ℕ) where
+  -- one pixel of a list is read, and then the rest
+  pub reads_turned : (at n i : ℕ) → i < n → (eqb at 0 || ltb size at) ≡ false → reads size links (get_or links (at - 1) 0) (n - (i + 1)) ≡ reads size links at (n - i)
+  reads_turned at n i l t =
+      let e : n - i - 1 ≡ n - (i + 1) = omega arith in
+      rw (reads-turn size links at (n - i) (omega arith), t, e)

@@ -27,6 +27,7 @@ impl<'a> Sheet<'a> {
     ghost use Rattle.container.specs.Code.Checked.{IsSheetOf};
 
     // The sheet of clusters, where the checks before those of the entries pass; picture is a length.
+    #[tactic(auto, using(crate::proofs::Accepted::answers))]
     pub(crate) fn checked(clusters: Clusters<'a>, picture: usize) -> Result<Sheet<'a>, Refusal>
         ensures answer { let s = clusters.entry in
             answer_of result ≡ paint_answer s.size.w s.size.h (length s.links.now) (length s.table.now)
@@ -47,6 +48,7 @@ impl<'a> Sheet<'a> {
     }
 
     // The number at a place of slot k.
+    #[tactic(auto, unfolding(rules::specs::Paint::slot_number))]
     pub(crate) fn slot_number(self, k: u32, place: usize) -> u32
         requires slot { k < self.n }
         requires place { place < slot_width }

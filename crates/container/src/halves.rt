@@ -1,5 +1,5 @@
 // Painting of a list from its first pixel and from its middle at once, while the middle of the next list is looked for.
-ghost use Rattle.std.specs.Prelude.{◌≡◌, ◌+◌, ◌*◌, ◌/◌, ◌≤◌, ◌<◌, ℕ, T, length, get_or};
+ghost use Rattle.std.specs.Prelude.{◌≡◌, ◌+◌, ◌*◌, ◌/◌, ◌≤◌, ◌<◌, ℕ, T, All, length, get_or};
 ghost use Rattle.rules.specs.Picture.{paint_pixel};
 ghost use Rattle.rules.specs.Paint.{reads};
 ghost use Rattle.color.specs.Colors.{color_of};
@@ -40,6 +40,7 @@ impl Sheet<'_> {
     }
 
     // Paints count pixels from the first place and count from the second, while all of them go count links on.
+    #[tactic(auto, using(crate::proofs::Stretches::going))]
     fn paint_two<const N: usize>(
         self,
         picture: &mut [u8],
@@ -49,7 +50,7 @@ impl Sheet<'_> {
     ) -> [u32; N]
         requires two { 2 ≤ N }
         requires long { 4 * self.size ≤ length picture.old }
-        requires read { (i : ℕ) → i < N → T (reads self.size self.links.now (get_or from i 0) count) }
+        requires read { All (λ v. T (reads self.size self.links.now v count)) from }
         ensures ends { let s = self.entry in (i : ℕ) → i < N
             → Leads s.size s.links.now (get_or from.entry i 0) count (get_or result i 0) }
         ensures painted { let s = self.entry in picture.new

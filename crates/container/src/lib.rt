@@ -21,6 +21,7 @@ use refusal::Refusal;
 
 // Paints the m outputs, from last to first, each cluster with its residue average; the rest of the picture is zero.
 // Nothing is painted unless every entry passes.
+#[tactic(auto, using(crate::proofs::Pictures::calls))]
 pub fn to_color_image(clusters: Clusters, picture: &mut [u8]) -> Result<(), Refusal>
     ensures { let s = clusters.entry in record { answer = answer_of result; picture = picture.new }
         ≡ paint_call s.size.w s.size.h s.links.now s.table.now s.outputs.now picture.old s.counts.n s.counts.m }

@@ -6,7 +6,7 @@ ghost use Rattle.rules.specs.Paint as rules;
 ghost use Rattle.refusal.specs.Refusal.{answer_of};
 ghost use Rattle.color.specs.Colors.{color_of, sum_of};
 ghost use Rattle.container.specs.Code.Leads.{Leads};
-ghost use Rattle.container.specs.Code.Checked.{entries_answer, EntriesPass};
+ghost use Rattle.container.specs.Code.Checked.{entries_answer, Passed, EntriesPass};
 ghost use Rattle.container.specs.Code.Stretch.{FirstHalf};
 
 use crate::checked::Sheet;
@@ -24,6 +24,7 @@ pub(crate) struct Stretch {
 
 impl Sheet<'_> {
     // The residue of slot k.
+    #[tactic(auto, unfolding(rules::specs::Paint::five_from, rules::specs::Paint::slot_number))]
     pub(crate) fn residue(self, k: u32) -> ColorSum
         requires { k < self.n }
         ensures { sum_of result ≡ rules.slot_residue self.entry.table.now k }
@@ -35,6 +36,7 @@ impl Sheet<'_> {
     }
 
     // Its average.
+    #[tactic(auto, using(crate::proofs::Slots::has_one))]
     pub(crate) fn average(self, k: u32) -> Color
         requires slot { k < self.n }
         requires average { T (has_average (rules.slot_residue self.table.now k)) }
@@ -44,6 +46,7 @@ impl Sheet<'_> {
     }
 
     // Whether the pixels of a stretch can be listed: no link is 0 or above size.
+    #[tactic(auto, using(crate::proofs::Stretches::reads_turned))]
     pub(crate) fn is_listed(self, stretch: Stretch) -> bool
         ensures { result ≡ rules.reads self.entry.size self.entry.links.now stretch.first stretch.count }
     {
@@ -70,6 +73,7 @@ impl Sheet<'_> {
     }
 
     // Checks 8, 9 and 10 of an entry that names slot k of n.
+    #[tactic(auto, unfolding(rules::specs::Paint::entry_answer))]
     fn check_entry(self, k: u32) -> Result<(), Refusal>
         ensures { let s = self.entry in
             answer_of result ≡ rules.entry_answer s.size s.n s.links.now s.table.now k }
@@ -99,6 +103,7 @@ impl Sheet<'_> {
     }
 
     // The first half of the list of the last entry; nothing where there is none.
+    #[tactic(auto, using(crate::proofs::Stretches::reads_half))]
     fn first_half(self, entries: &[u32]) -> Stretch
         requires { EntriesPass self entries.now }
         ensures half { FirstHalf self.entry.table.now entries.now result }
@@ -115,9 +120,10 @@ impl Sheet<'_> {
     }
 
     // Paints the cluster of slot k, whose middle is mid, with its residue average, and answers where ahead ends.
+    #[tactic(auto, unfolding(rules::specs::Paint::paint_slot, crate::specs::Code::Stretch::paint_along))]
     fn render_to_color_image(self, picture: &mut [u8], k: u32, mid: u32, ahead: Stretch) -> u32
         requires long { 4 * self.size ≤ length picture.old }
-        requires passed { let s = self in rules.entry_answer s.size s.n s.links.now s.table.now k ≡ 0 }
+        requires passed { Passed self k }
         requires mid { let s = self in Leads s.size s.links.now
             (rules.slot_number s.table.now k 0) (rules.slot_number s.table.now k 1 / 2) mid }
         requires ahead { let s = self in T (rules.reads s.size s.links.now ahead.first ahead.count) }

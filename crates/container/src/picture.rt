@@ -1,11 +1,8 @@
 // The picture: the quick checks, the plain one where they do not decide, and then the entries.
-ghost use Rattle.std.specs.Prelude.{◌≡◌, true, ℕ, ◌*◌, ◌≤◌, ◌<◌, T, length, get_or};
-ghost use Rattle.rules.specs.Color.{has_average, average};
-ghost use Rattle.rules.specs.Paint.{slot_residue};
+ghost use Rattle.std.specs.Prelude.{◌≡◌, true, ℕ, ◌*◌, ◌≤◌, ◌<◌, length, get_or};
 ghost use Rattle.refusal.specs.Refusal.{answer_of};
 ghost use Rattle.container.specs.Code.Checked.{entries_answer, painting};
 ghost use Rattle.container.specs.Code.Quick.{ListPasses};
-ghost use Rattle.container.specs.Code.Uniform.{uniform};
 ghost use Rattle.container.specs.Code.Covered.{Whole};
 
 use crate::checked::Sheet;
@@ -15,6 +12,7 @@ use refusal::Refusal;
 
 impl Numbered<'_> {
     // Checks the entries, whose lists pass from entry `rest` on.
+    #[tactic(auto, using(crate::proofs::Passes::quick_zero))]
     fn check_lists(self, rest: usize) -> Result<(), Refusal>
         requires rest { rest ≤ length self.sheet.outputs.now }
         requires lists { let s = self.sheet in (i : ℕ) → rest ≤ i → i < length s.outputs.now
@@ -41,18 +39,8 @@ impl Numbered<'_> {
 }
 
 impl Sheet<'_> {
-    // Paints every pixel with the residue average of slot k.
-    fn paint_all(self, picture: &mut [u8], k: u32)
-        requires slot { k < self.n }
-        requires average { T (has_average (slot_residue self.table.now k)) }
-        requires long { length picture.old ≡ 4 * self.size }
-        ensures { let s = self.entry in
-            picture.new ≡ uniform (average (slot_residue s.table.now k)) s.size }
-    {
-        fill::fill(picture, self.average(k));
-    }
-
     // Paints the entries over zeros.
+    #[tactic(auto, using(crate::proofs::Pictures::paints_all))]
     fn paint_over_zeros(self, picture: &mut [u8])
         requires long { length picture.old ≡ 4 * self.size }
         requires passed { entries_answer self ≡ 0 }
@@ -63,6 +51,7 @@ impl Sheet<'_> {
     }
 
     // Paints the other entries over the last one, which is all pixels.
+    #[tactic(auto, using(crate::proofs::Pictures::paints_others))]
     fn paint_over_last(self, picture: &mut [u8])
         requires long { length picture.old ≡ 4 * self.size }
         requires passed { entries_answer self ≡ 0 }
@@ -70,11 +59,12 @@ impl Sheet<'_> {
         ensures { record { answer = 0; picture = picture.new } ≡ painting self.entry picture.old }
     {
         let rest = self.outputs.len() - 1;
-        self.paint_all(picture, self.outputs[rest]);
+        fill::fill(picture, self.average(self.outputs[rest]));
         self.paint_entries(picture, &self.outputs[..rest]);
     }
 
     // Paints when every entry passes, and else answers the first check that failed.
+    #[tactic(auto, using(crate::proofs::Pictures::refuses))]
     pub(crate) fn paint(self, picture: &mut [u8]) -> Result<(), Refusal>
         requires { length picture.old ≡ 4 * self.size }
         ensures { record { answer = answer_of result; picture = picture.new } ≡ painting self.entry picture.old }

@@ -1,8 +1,10 @@
 -- The sheet that is painted, and what the rules say of it.
-use Rattle.std.specs.Prelude.{◌≡◌, List, ℕ, ◌*◌, length, take}
+use Rattle.std.specs.Prelude.{◌≡◌, List, ℕ, ◌*◌, ◌<◌, T, length, take}
 use Rattle.std.specs.List.{All}
 use Rattle.rules.specs.Paint as rules
-use Rattle.rules.specs.Paint.{Painted}
+use Rattle.rules.specs.Color.{has_average}
+use Rattle.rules.specs.Layout.{first_pixel_place, pixel_count_place}
+use Rattle.rules.specs.Paint.{Painted, reads, slot_number, slot_residue}
 use Rattle.image.specs.declared.Clusters.{Clusters}
 use Rattle.container.specs.declared.checked.Sheet.{Sheet}
 
@@ -20,9 +22,16 @@ pub record IsSheetOf (clusters : Clusters) (bytes : ℕ) (sheet : Sheet) : Type 
 abbrev pub entries_answer : Sheet → ℕ
 entries_answer s = rules.entries_answer s.size s.n s.links.now s.table.now s.outputs.now (length s.outputs.now)
 
--- each entry passes
+-- slot k has passed checks 8, 9 and 10
+pub record Passed (s : Sheet) (k : ℕ) : Type 0 where
+  pub slot : k < s.n
+  pub average : T (has_average (slot_residue s.table.now k))
+  pub listed : T (reads s.size s.links.now (slot_number s.table.now k first_pixel_place)
+      (slot_number s.table.now k pixel_count_place))
+
+-- each entry has passed them
 abbrev pub EntriesPass : Sheet → List ℕ → Type 0
-EntriesPass s entries = All (λ k. rules.entry_answer s.size s.n s.links.now s.table.now k ≡ 0) entries
+EntriesPass s entries = All (Passed s) entries
 
 -- what painting it answers, and the picture as it leaves it; `given` is the picture before
 abbrev pub painting : Sheet → List ℕ → Painted

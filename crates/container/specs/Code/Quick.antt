@@ -32,5 +32,5 @@ abbrev pub RestsPass : ℕ → List ℕ → Lanes → Type 0
 RestsPass size links x = (i : ℕ) → i < 4 → T (reads size links (get_or x.at i 0) (get_or x.count i 0))
 
 -- if the rests of the four lanes can be read, so can the lists of all entries that were taken: left, .. m - 1
-abbrev pub LanesPass : ℕ → List ℕ → List ℕ → List ℕ → ℕ → Lanes → Type 0
-LanesPass size links table outputs m x = RestsPass size links x → PassFrom size links table outputs m x.left
+pub record LanesPass (size : ℕ) (links table outputs : List ℕ) (m : ℕ) (x : Lanes) : Type 0 where
+  pub taken : RestsPass size links x → PassFrom size links table outputs m x.left

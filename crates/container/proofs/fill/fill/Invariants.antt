@@ -5,4 +5,4 @@ use Rattle.container.proofs.Covered.{Begins}
 use Rattle.container.proofs.fill.fill.Given as goal
 
 abbrev pub invariant-loop-p : goal.invariant-loop-p
-invariant-loop-p l = record { long : length l.picture ≡ length l.initial.picture; begins : Begins l.p (color_of l.c) l.picture }
+invariant-loop-p l = Begins l.p (color_of l.c) l.picture

@@ -11,7 +11,6 @@ loop-left-preserved c = let v = c.loop-left.invariant in
     let e = c.render_to_color_image-mid.ensures in
     let left = c.loop-left.left.now in record {
       short = omega (arith, length-take-le (length left - 1) left (omega arith), v.short);
-      long = c.render_to_color_image-mid.auto.picture ∙ v.long;
       passed = before-pass c.args.self _ _ v.passed;
       middle = half-leads _ _ _ _ _ _ c.first_half-ahead.ensures.half e.ahead;
       painted = rw e.painted (sym (back-turn left _ _ (omega arith)) ∙ v.painted);

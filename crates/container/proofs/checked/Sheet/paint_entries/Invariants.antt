@@ -11,7 +11,6 @@ use Rattle.container.proofs.checked.Sheet.paint_entries.Given as goal
 abbrev pub invariant-loop-left : goal.invariant-loop-left
 invariant-loop-left l = let s = l.self in let paint = paint_slot s.links.now s.table.now in record {
   short : length l.left ≤ length l.fn.entries;
-  long : length l.picture ≡ length l.initial.picture;
   passed : EntriesPass s l.left;
   middle : Middle s.size s.links.now s.table.now l.left l.mid;
   painted : each_back l.left paint l.picture ≡ each_back l.fn.entries paint l.initial.picture;

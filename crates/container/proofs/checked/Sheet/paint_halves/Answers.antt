@@ -1,6 +1,5 @@
 use mathlib.Core.Path.{◌≡◌, refl, ◌∙◌}
-use mathlib.Core.List.{[], ◌∷◌}
-use Prim.Native.Nat.{ℕ, zero, suc, ◌+◌, ◌-◌, ◌/◌, ◌≤◌, ◌<◌}
+use Prim.Native.Nat.{◌+◌, ◌-◌, ◌/◌, ◌≤◌, ◌<◌}
 use native.Mathlib.Omega.{arith}
 use lib.Dec.{T}
 use lib.ListN.{get_or}
@@ -10,22 +9,10 @@ use Rattle.rules.proofs.Walks.{step}
 use Rattle.color.specs.Colors.{color_of}
 use Rattle.container.specs.Code.Leads.{Leads}
 use Rattle.container.specs.Code.Stretch.{paint_along}
-use Rattle.container.proofs.Leads.{leads-on}
+use Rattle.container.proofs.Leads.{leads-on, all-two, all-three}
 use Rattle.container.proofs.Stretches.{reads-part, leads-rest, halves-end, halves-painted, along-more}
 use Rattle.container.proofs.checked.Sheet.paint_halves.Goals as goal
 use Rattle.container.proofs.checked.Sheet.paint_halves.Goals.{After-paint_two-2, After-look-z, Then-half-count}
-
--- a fact of each of two or three places
-two : (P : ℕ → Type 0) (x y : ℕ) → P x → P y → (i : ℕ) → i < 2 → P (get_or (x ∷ y ∷ []) i 0)
-two P x y a b zero l = a
-two P x y a b (suc zero) l = b
-two P x y a b (suc (suc i)) l = absurd (omega arith)
-
-three : (P : ℕ → Type 0) (x y z : ℕ) → P x → P y → P z → (i : ℕ) → i < 3 → P (get_or (x ∷ y ∷ z ∷ []) i 0)
-three P x y z a b c zero l = a
-three P x y z a b c (suc zero) l = b
-three P x y z a b c (suc (suc zero)) l = c
-three P x y z a b c (suc (suc (suc i))) l = absurd (omega arith)
 
 -- after both halves: where the second ends, and the picture
 ends : (c : After-paint_two-2)
@@ -56,7 +43,7 @@ within c = let t = step c.args.self.size c.args.self.links.now (get_or c.paint_t
 pub paint_two-requires : goal.paint_two-requires
 paint_two-requires c = let b = c.min-both.result in
     let s = c.args.self in
-    let read = three (λ x. T (reads s.size s.links.now x b)) _ _ _
+    let read = all-three (λ x. T (reads s.size s.links.now x b)) _ _ _
     (reads-part _ _ c.args.count 0 b _ _ (omega arith) refl c.requires.list)
     (reads-part _ _ c.args.count (c.args.count / 2) b _ _ (omega arith) c.requires.middle c.requires.list)
     (reads-part _ _ c.args.ahead 0 b _ _ (omega arith) refl c.requires.ahead) in
@@ -66,7 +53,7 @@ pub paint_two-requires-2 : goal.paint_two-requires-2
 paint_two-requires-2 c = let b = c.min-both.result in
     let s = c.args.self in
     let e = c.paint_two.ensures in
-    let read = two (λ x. T (reads s.size s.links.now x (c.args.count / 2 - b))) _ _
+    let read = all-two (λ x. T (reads s.size s.links.now x (c.args.count / 2 - b))) _ _
     (reads-part _ _ c.args.count b (c.args.count / 2 - b) _ _ (omega arith) (e.ends 0 (omega arith)) c.requires.list)
     (reads-part _ _ c.args.count (c.args.count / 2 + b) (c.args.count / 2 - b) _ _ (omega arith) (leads-on _ _ (c.args.count / 2) b _ _ _ c.requires.middle (e.ends 1 (omega arith))) c.requires.list) in
     (search rules, (search rules, (omega (arith, c.requires.long, c.paint_two.auto.picture), read)))

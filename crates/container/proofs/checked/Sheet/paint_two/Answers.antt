@@ -1,25 +1,8 @@
 use mathlib.Core.Path.{◌≡◌}
 use Prim.Native.Nat.{◌-◌, ◌+◌, ◌<◌}
 use native.Mathlib.Omega.{arith}
-use Rattle.std.proofs.Common.{rules}
-use Rattle.container.proofs.Stretches.{going-on, going-turn, both-none, both-turn}
+use Rattle.container.proofs.Stretches.{going-turn, both-turn}
 use Rattle.container.proofs.checked.Sheet.paint_two.Goals as goal
-
-pub overflow_sub-at : goal.overflow_sub-at
-overflow_sub-at g c = (going-on _ _ _ _ _ _ c.loop-step-test.true (c.loop-step.invariant.going 0 (omega (arith, c.requires.two)))).0
-
-pub paint_pixel-requires : goal.paint_pixel-requires
-paint_pixel-requires g c = omega (arith, going-on _ _ _ _ _ _ c.loop-step-test.true (c.loop-step.invariant.going 0 (omega (arith, c.requires.two))), c.loop-step.invariant.long, c.requires.long)
-
-pub overflow_sub-at-in-loop-step : goal.overflow_sub-at-in-loop-step
-overflow_sub-at-in-loop-step g c = (going-on _ _ _ _ _ _ c.loop-step-test.true (c.loop-step.invariant.going 1 (omega (arith, c.requires.two)))).0
-
-pub paint_pixel-requires-in-loop-step : goal.paint_pixel-requires-in-loop-step
-paint_pixel-requires-in-loop-step g c =
-    omega (arith, going-on _ _ _ _ _ _ c.loop-step-test.true (c.loop-step.invariant.going 1 (omega (arith, c.requires.two))), c.loop-step.invariant.long, c.requires.long, c.paint_pixel.auto.picture)
-
-pub follow-requires : goal.follow-requires
-follow-requires g c = (search rules, λ i l. going-on _ _ _ _ _ _ c.loop-step-test.true (c.loop-step.invariant.going i l))
 
 pub loop-step-preserved : goal.loop-step-preserved
 loop-step-preserved g c = let v = c.loop-step.invariant in
@@ -28,11 +11,7 @@ loop-step-preserved g c = let v = c.loop-step.invariant in
     let one : 1 < g.row.N = omega (arith, c.requires.two) in
     let e : (c.args.count - c.loop-step._step) - 1 ≡ c.args.count - (c.loop-step._step + 1) = omega arith in record {
       lanes = c.follow.ensures.length;
-      long = omega (arith, c.paint_pixel-in-loop-step.auto.picture, c.paint_pixel.auto.picture, v.long);
       going = λ i l. rw (c.follow.ensures.on i l) (going-turn _ _ _ _ _ _ h (v.going i l));
       painted = rw (c.follow.ensures.on 0 zero, c.follow.ensures.on 1 one, c.paint_pixel-in-loop-step.ensures, c.paint_pixel.ensures, ← e)
           (rw (both-turn _ _ _ (c.args.count - c.loop-step._step) _ _ _ (omega arith) (v.going 0 zero).rest (v.going 1 one).rest) at v.painted);
     }
-
-pub returns-clause-painted : goal.returns-clause-painted
-returns-clause-painted g c = rw (both-none _ _ (c.args.count - c.loop-step._step) _ _ _ (omega arith)) at c.loop-step.invariant.painted

@@ -10,7 +10,6 @@ use Rattle.container.proofs.checked.Sheet.paint_two.Given as goal
 abbrev pub invariant-loop-step : goal.invariant-loop-step
 invariant-loop-step g l = let links = l.self.links.now in record {
   lanes : length l.at ≡ g.row.N;
-  long : length l.picture ≡ length l.initial.picture;
   going : (i : ℕ) → i < g.row.N → Going l.self.size links (get_or l.fn.from i 0) l.count (get_or l.at i 0) l._step;
   painted : (let left = l.count - l._step in paint_along (color_of l.c) links (get_or l.at 1 0) left (paint_along (color_of l.c) links (get_or l.at 0 0) left l.picture))
       ≡ paint_along (color_of l.c) links (get_or l.fn.from 1 0) l.count (paint_along (color_of l.c) links (get_or l.fn.from 0 0) l.count l.initial.picture);

@@ -23,8 +23,10 @@ module _ (xs : List ℕ) (n : ℕ) where
   each a b c d (suc (suc (suc (suc i)))) l = absurd (omega arith)
 
 pub returns-clause-pass : goal.returns-clause-pass
-returns-clause-pass c table outputs m p r =
-    let s = c.args.self.sheet in
-    let count = c.args.lanes.count in
-    let n = c.walk-moved.result.moved in
-    p (λ i l. walked-reads s.size s.links.now _ _ n _ (each count n (omega arith) (omega arith) (omega arith) (omega arith) i l) (c.walk-moved.ensures.leads i l) (rw (less count n i l) at (r i l)))
+returns-clause-pass c table outputs m p = record {
+  taken = λ r.
+      let s = c.args.self.sheet in
+      let count = c.args.lanes.count in
+      let n = c.walk-moved.result.moved in
+      p.taken (λ i l. walked-reads s.size s.links.now _ _ n _ (each count n (omega arith) (omega arith) (omega arith) (omega arith) i l) (c.walk-moved.ensures.leads i l) (rw (less count n i l) at (r i l)));
+}
