@@ -1,10 +1,10 @@
 use Rattle.std.specs.Prelude.{if◌then◌else◌}
 use mathlib.Core.Path.{◌≡◌, ap, ◌∙◌}
 use mathlib.Core.List.{List}
-use Prim.Native.Nat.{ℕ, ◌+◌, ◌*◌, ◌≤◌, ◌<◌}
+use Prim.Native.Nat.{ℕ, ◌+◌, ◌*◌, ◌<◌}
 use native.Mathlib.Omega.{arith}
 use lib.Dec.{eqb}
-use lib.ListN.{length, get_or, set}
+use lib.ListN.{get_or, set}
 use Rattle.rules.specs.State.{Cluster, with_cluster}
 use Rattle.rules.specs.State as rules
 use Rattle.rules.specs.Layout.{walk, slot_width, first_pixel_place, pixel_count_place}
@@ -30,10 +30,6 @@ relabelled f t L K B e d labels = rw (← e, ← d) labels
 
 -- with the heads that are loaded
 module _ {f t : ℕ} {L K B E : List ℕ} {from to : Head} (given : from ≡ head_at B f) (met : to ≡ head_at B t) where
-  -- what linking asks
-  asks-link : CanAppend f t L K B E → 0 < to.count → (0 < get_or E t 0) × (get_or E t 0 ≤ length K)
-  asks-link p = rw met p.to.tail
-
   -- what adding the heads asks
   asks-sum : CanAppend f t L K B E → (to.count + from.count < sum_bound) × Adds (sum_of to.sum) (sum_of from.sum)
   asks-sum p = rw (given, met) (omega (arith, p.from.count, p.to.count), p.sum)
