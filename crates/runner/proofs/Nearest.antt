@@ -3,16 +3,15 @@ use Rattle.std.specs.Prelude.{if◌then◌else◌}
 use mathlib.Core.Path.{◌≡◌, refl, sym, ap, ap₂, ◌∙◌, subst}
 use mathlib.Core.Logic.{◌≢◌, ◌⊎◌, inl, inr}
 use mathlib.Core.Bool.{Bool, true, false, ◌&&◌, ◌||◌, or-true}
-use mathlib.Core.List.{List, [], ◌∷◌, ◌++◌, map}
+use mathlib.Core.List.{List, [], ◌∷◌, map}
 use mathlib.Core.Option.{Option, some}
 use mathlib.Core.Option.{none as off}
 use Prim.Native.Nat.{ℕ, zero, suc, ◌+◌, ◌-◌, ◌*◌, ◌%◌, ◌≤◌, ◌<◌}
 use native.Mathlib.Decide.{ℕ_discrete}
-use native.Mathlib.Numerals.{add-one}
 use native.Mathlib.Omega.{arith}
 use lib.Dec.{T, eqb, leb, ltb, eqb_refl}
 use lib.ListN.{length, get_or, set, take, length-set}
-use lib.Seq.{get_or-set_same, get_or-set_other, take-suc, length-take-le}
+use lib.Seq.{get_or-set_same, get_or-set_other, length-take-le}
 use borrow.Author.Tests.{ltb-true, ltb-false, eqb-true, eqb-false, ne_eqb}
 use Rattle.std.proofs.lemmas.List.{take_all}
 use Rattle.rules.specs.Base.{each, member, insert_once, least}
@@ -252,17 +251,9 @@ module _ (key : ℕ → ℕ) (own visit : ℕ) where
   each-count [] s = omega arith
   each-count (l ∷ ls) s = omega (arith, each-count ls (noted key own visit l s), noted-count l s)
 
-  each-snoc : (ls : List ℕ) (l : ℕ) (s : Scan) → each (ls ++ (l ∷ [])) (noted key own visit) s ≡ noted key own visit l (each ls (noted key own visit) s)
-  each-snoc [] l s = refl
-  each-snoc (x ∷ ls) l s = each-snoc ls l (noted key own visit x s)
-
   -- t is the scan s after the first i of some labels: at most i neighbours more
   pub some-noted : (ls : List ℕ) (i : ℕ) (s t : Scan) → i ≤ length ls → t ≡ each (take i ls) (noted key own visit) s → t.nearest.count ≤ s.nearest.count + i
   some-noted ls i s t l e = rw e (omega (arith, each-count (take i ls) s, length-take-le i ls l))
-
-  -- one more
-  pub one-noted : (ls : List ℕ) (i : ℕ) (s t u : Scan) → i < length ls → t ≡ each (take i ls) (noted key own visit) s → u ≡ noted key own visit (get_or ls i 0) t → u ≡ each (take (i + 1) ls) (noted key own visit) s
-  one-noted ls i s t u l e f = f ∙ ap (noted key own visit (get_or ls i 0)) e ∙ sym (each-snoc (take i ls) (get_or ls i 0) s) ∙ sym (ap (λ xs. each xs (noted key own visit) s) (ap (λ n. take n ls) (add-one i) ∙ take-suc ls i 0 l))
 
   -- all
   pub all-noted : (ls : List ℕ) (i : ℕ) (s t : Scan) → length ls ≤ i → t ≡ each (take i ls) (noted key own visit) s → t ≡ each ls (noted key own visit) s
