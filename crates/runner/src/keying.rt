@@ -8,8 +8,8 @@ ghost use Rattle.runner.specs.Types.{action_of, config_of};
 use crate::{KeyingAction, RunnerConfig};
 use color::Color;
 
-// The colour of pixel i. It is read here, and not by a call of `color`, which is compiled to one load that is taken apart
-// again: a run over flat regions then takes a quarter more instructions.
+// The colour of pixel i. It is read here, and not by a call of `color`, which is compiled to one load that is taken
+// apart again: a run over flat regions then takes a quarter more instructions.
 #[tactic(auto, unfolding(rules::specs::Color::pixel), using(color::proofs::Chunks::in_chunk))]
 pub(crate) fn color_at(image: &[u8], i: u32) -> Color
     requires { 4 * i + 4 ≤ length image.now }

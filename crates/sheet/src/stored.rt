@@ -143,7 +143,7 @@ pub(crate) fn check(clusters: Clusters, labels: &[u32], destination: usize) -> R
 }
 
 // Writes the sheet.
-#[tactic(auto, unfolding(rules::specs::Stored::pixel_numbers, rules::specs::Stored::slot_numbers), using(crate::proofs::Slots::write_laws))]
+#[tactic(auto, using(crate::proofs::Slots::write_laws))]
 pub(crate) fn write(clusters: Clusters, labels: &[u32], destination: &mut [u8])
     requires can_store { let s = clusters in
         CanStore (s.size.w * s.size.h) s.counts.n s.counts.m (length labels.now) (length s.links.now)
