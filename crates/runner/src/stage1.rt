@@ -412,7 +412,8 @@ fn pixel_past(w: u32, at: Pixel, n: u32) -> Pixel
     }
 }
 
-// All pixels, row by row.
+// All pixels, row by row. Not inlined: beside stage 2 in one function its loop would lose registers.
+#[inline(never)]
 pub(crate) fn stage_1(b: &mut Builder, input: &Input) -> Slots
     requires { of_lists (Blank (input.now.w * input.now.h)) b.old }
     ensures loans { SameLists b.old b.new }

@@ -28,14 +28,8 @@ pub returns-then-near-eq0-clause-visited : goal.returns-then-near-eq0-clause-vis
 returns-then-near-eq0-clause-visited c t₀ v = let n = c.neighbours-near in
     put-visited c.args.input.now.given (scanned c.args.input.now.given v n.new.marks n.auto.marks n.ensures.marked) _ (visit-alone c.args.input.now.given v n.result n.ensures.nearest c.if-input-e.false c.if-near-eq0.true) (omega arith) c.isolated-then-near-eq0.ensures
 
-pub merge_into_nearest-requires : goal.merge_into_nearest-requires
-merge_into_nearest-requires c =
-    let n = c.neighbours-near in
-    let v = c.requires.1 in
-    record {
-      by_index = (c.requires.0, scanned c.args.input.now.given v n.new.marks n.auto.marks n.ensures.marked);
-      aimed = aims c.args.input.now.given v n.result n.ensures.nearest c.if-input-e.false (omega (arith, c.if-near-eq0.false));
-    }
+pub merge_into_nearest-requires-clause-aimed : goal.merge_into_nearest-requires-clause-aimed
+merge_into_nearest-requires-clause-aimed c = let n = c.neighbours-near in aims c.args.input.now.given c.requires.1 n.result n.ensures.nearest c.if-input-e.false (omega (arith, c.if-near-eq0.false))
 
 pub returns-clause-visited : goal.returns-clause-visited
 returns-clause-visited c t₀ v = let n = c.neighbours-near in c.merge_into_nearest.ensures.visited t₀ (scanned c.args.input.now.given v n.new.marks n.auto.marks n.ensures.marked)
