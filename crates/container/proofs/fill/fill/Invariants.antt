@@ -1,5 +1,3 @@
-use mathlib.Core.Path.{◌≡◌}
-use lib.ListN.{length}
 use Rattle.color.specs.Colors.{color_of}
 use Rattle.container.proofs.Covered.{Begins}
 use Rattle.container.proofs.fill.fill.Given as goal
