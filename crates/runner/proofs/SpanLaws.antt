@@ -37,6 +37,8 @@ use Rattle.runner.proofs.Tables.{head-at}
 use Rattle.runner.proofs.Tails.{link_after-joins}
 use Rattle.runner.proofs.RepStage1.{rep_add, labels-long, links-long}
 use Rattle.runner.proofs.Stage1Laws.{rep-is, can-add}
+use Rattle.color.proofs.Chunks.{in_chunk}
+use Rattle.runner.proofs.Slots.{adds-taken}
 
 -- ---- a head saved twice
 
@@ -240,3 +242,6 @@ module _ {o : RunnerConfig} {shift w t : ℕ} {image L : List ℕ} (limits : Lis
 -- what holds of n numbers from i on, and of m after them
 pub then-more : (P : ℕ → Type 0) (i n m : ℕ) → ((j : ℕ) → j < n → P (i + j)) → ((j : ℕ) → j < m → P (i + n + j)) → (j : ℕ) → j < n + m → P (i + j)
 then-more P i n m f g j l = by_cases (dec_lt j n) (λ z. f j z) (λ z. subst P (let e : i + n + (j - n) ≡ i + j = omega (arith, z) in e) (g (j - n) (omega (arith, z))))
+
+-- what sums the colours of pixels
+pub ruleset summed = (adds-taken, in_chunk, sum_fits)

@@ -276,3 +276,6 @@ pub held_all : (o : RunnerConfig) (w h : ℕ) (image : List ℕ) {t₀ L K B E :
     → Holding (w * h) (stage1 o w h image) t₀ L K B E n m
 unfolding stage1
 held_all o w h image {t₀} {L} {K} {B} {E} {n} {m} e H = subst (λ k. Holding (w * h) (taken o w image (w * h) k) t₀ L K B E n m) e H
+
+-- what tells which side goes into which, and what both have then
+pub ruleset sides = (left-into-up, up-into-left, sided-up, sided-left)

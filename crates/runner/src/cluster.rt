@@ -147,6 +147,7 @@ impl<'a> Visit<'a> {
 }
 
 // The neighbours of cluster k, each marked with the number of the visit.
+#[tactic(auto, unfolding(rules::specs::Stage2::labels_around), using(rules::proofs::Walks::step, rules::proofs::Walks::walk_none))]
 pub(crate) fn neighbours(
     b: &Builder,
     marks: &mut [u32],

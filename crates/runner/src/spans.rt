@@ -31,6 +31,7 @@ fn chain_links(links: &mut [u32], i: u32, n: u32)
 }
 
 // The colours of pixels, of four bytes each, summed.
+#[tactic(auto, unfolding(rules::specs::Color::pixel, rules::specs::Code::Spans::sum_from), using(crate::proofs::SpanLaws::summed))]
 fn sum_colors(bytes: &[u8]) -> ColorSum
     requires { length bytes.now < 4 * count_bound }
     ensures { sum_of result ≡ sum_from bytes.now 0 (length bytes.now / 4) }

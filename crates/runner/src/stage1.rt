@@ -265,6 +265,7 @@ fn lower_next(s: Slots, l: u32) -> Slots
 
 // Step 1, the merge: the smaller cluster goes into the larger, left into up on equal counts. Both sides then have the
 // survivor's number.
+#[tactic(auto, using(crate::proofs::Stage1Steps::sides))]
 fn combine_sides(b: &mut Builder, l: u32, u: u32, s: Slots) -> Sides
     requires { (o : Config) × (w : ℕ) × (h : ℕ) × (image : List ℕ) × (shift : ℕ) × (i : ℕ) × (x : ℕ) × (y : ℕ)
         × (st : State) × (t₀ : List ℕ)

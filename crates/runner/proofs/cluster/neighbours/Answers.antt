@@ -1,4 +1,4 @@
-use mathlib.Core.Path.{◌≡◌, refl, ap, ◌∙◌}
+use mathlib.Core.Path.{◌≡◌, refl, ◌∙◌}
 use mathlib.Core.List.{List, map}
 use Prim.Native.Nat.{ℕ, ◌+◌, ◌-◌, ◌*◌, ◌≤◌, ◌<◌}
 use native.Mathlib.Omega.{arith}
@@ -10,8 +10,8 @@ use Rattle.rules.specs.Code.Bounds.{capacity}
 use Rattle.rules.specs.Stage2.{labels_at, labels_around}
 use Rattle.rules.proofs.Labels.{sides-fit}
 use Rattle.runner.specs.Code.Slots.{sum_at}
-use Rattle.runner.specs.Code.Neighbours.{place_label, diff_from, diff_at, nearest_of, Scan, noted_four, Scannable, Found}
-use Rattle.rules.proofs.Walks.{Step, step, walk_none}
+use Rattle.runner.specs.Code.Neighbours.{place_label, diff_from, diff_at, Scan, noted_four, Scannable}
+use Rattle.rules.proofs.Walks.{step}
 use Rattle.runner.proofs.Nearest.{each-length, each-count, each_holds}
 use Rattle.runner.proofs.cluster.neighbours.Invariants.{Going}
 use Rattle.runner.proofs.cluster.neighbours.Goals as goal
@@ -40,31 +40,8 @@ module _ (labels links table marks : List ℕ) (w h k visit : ℕ) (small : w * 
       → Going labels links table marks w h k visit t (get_or links (at - 1) 0) (left - 1)
   turn s t at left four c l e f g G = gives s t at left l (rw (e, f) at g) G
 
-  ends : (s : Scan) (at left : ℕ) → left ≤ 0 → Going labels links table marks w h k visit s at left → Found labels links table w h k visit s.nearest s.marks
-  unfolding labels_around
-  ends s at left l G = record {
-    nearest = G.holds.right ∙ ap (nearest_of (diff_at table k)) (rw (walk_none (λ p. get_or links p 0) at left l) at G.rest);
-    marked = G.holds.low;
-  }
-
--- the pixel of a turn
-here : (c : In-loop) → let a = c.args in Step (a.input.now.w * a.input.now.h) a.b.now.links.now c.loop.at (get_or a.b.now.table.now (slot_width * a.k + pixel_count_place) 0 - c.loop.counter)
-here c = step _ _ _ _ (omega arith) c.loop.invariant.readable
-
-pub overflow_sub-p : goal.overflow_sub-p
-overflow_sub-p c = (here (goal.at.overflow_sub-p c).In-loop).some
-
-pub look-found-requires-clause-pixel : goal.look-found-requires-clause-pixel
-look-found-requires-clause-pixel c = let at = here (goal.at.look-found-requires-clause-pixel c).In-loop in omega (arith, at.some, at.within)
-
-pub bounds-links-p : goal.bounds-links-p
-bounds-links-p c = omega (arith, (here (goal.at.bounds-links-p c).In-loop).some, (here (goal.at.bounds-links-p c).In-loop).within, c.requires.linked)
-
 pub loop-preserved : goal.loop-preserved
 loop-preserved c =
     let count = get_or c.args.b.now.table.now (slot_width * c.args.k + pixel_count_place) 0 in
     let e : count - (c.loop.counter + 1) ≡ count - c.loop.counter - 1 = omega arith in
     rw e (turn _ _ _ _ _ _ _ _ c.args.input.now.given.small c.requires _ _ _ _ _ _ (omega arith) refl c.color.ensures c.look-found.ensures c.loop.invariant)
-
-pub returns : goal.returns
-returns c = ends _ _ _ _ _ _ _ _ c.args.input.now.given.small c.requires _ _ _ (omega arith) c.loop.invariant
