@@ -17,5 +17,5 @@ unfolding five_from slot_number
 five-from table k f = rw (added (slot_width * k) f 1, added (slot_width * k) f 2, added (slot_width * k) f 3, added (slot_width * k) f 4)
 
 -- those from number f of slot k on
-pub five-read : (table : List ℕ) (k f : ℕ) {s : ColorSum} → InTable k table → f + 5 ≤ slot_width → (slot_width * k + f + 5 ≤ length table → s ≡ five_at table (slot_width * k + f)) → s ≡ five_from f table k
-five-read table k f i l e = e (omega arith) ∙ five-from table k f
+pub five_read : (table : List ℕ) (k f : ℕ) {s : ColorSum} → InTable k table → f + 5 ≤ slot_width → (slot_width * k + f + 5 ≤ length table → s ≡ five_at table (slot_width * k + f)) → s ≡ five_from f table k
+five_read table k f i l e = e (omega arith) ∙ five-from table k f

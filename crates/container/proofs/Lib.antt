@@ -1,6 +1,5 @@
 -- Laws that belong to no one function.
 pub mod Leads
-pub mod Slots
 pub mod Entries
 pub mod Passes
 pub mod Covered

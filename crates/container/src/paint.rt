@@ -36,7 +36,7 @@ impl Sheet<'_> {
     }
 
     // Its average.
-    #[tactic(auto, using(crate::proofs::Slots::has_one))]
+    #[tactic(auto, using(color::proofs::Averages::has_one))]
     pub(crate) fn average(self, k: u32) -> Color
         requires slot { k < self.n }
         requires average { T (has_average (rules.slot_residue self.table.now k)) }

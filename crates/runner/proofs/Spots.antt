@@ -153,7 +153,9 @@ module _ {w h i x y : ℕ} (image : List ℕ) (S : Spot w h i x y) (whole : leng
   pub up_left-pixel : 0 < y → color_at image (left w (i - w)) ≡ color_at image (up_left w i)
   up_left-pixel l = ap (color_at image) (sym (up_left-some w i (later l)))
 
--- what names the pixels and the places to the left of a pixel and above it
+-- what names a pixel, those to the left of it and above it, and their places
+pub ruleset own_pixels = (never-off, own-color)
+
 pub ruleset left_pixels = (no-left, left-pixel)
 
 pub ruleset up_pixels = (no-up, up-pixel, up_none)

@@ -13,6 +13,7 @@ use color::Color;
 use image::layout;
 
 // The average of the sum of cluster k.
+#[tactic(auto, using(color::proofs::Averages::has_one, color::proofs::Five::five_read))]
 pub(crate) fn color(table: &[u32], k: u32) -> Color
     requires { Averaged table.now k }
     ensures { color_of result ≡ average (sum_at table.now k) }

@@ -75,7 +75,7 @@ pub(crate) fn save_head(table: &mut [u32], k: u32, s: Head)
 }
 
 // The residue of slot k.
-#[tactic(auto, unfolding(crate::specs::Code::Slots::residue_at, rules::specs::Paint::five_from, rules::specs::Paint::slot_number))]
+#[tactic(auto, unfolding(crate::specs::Code::Slots::residue_at), using(color::proofs::Five::five_read))]
 pub(crate) fn load_residue(table: &[u32], k: u32) -> ColorSum
     requires { InTable k table.now }
     ensures { result ≡ residue_at table.now k }

@@ -108,6 +108,7 @@ fn up_left_of(input: &Input, at: Pixel) -> Option<Color>
 }
 
 // What is seen from a pixel. It is on the image, so its own colour is never none.
+#[tactic(auto, using(crate::proofs::Spots::own_pixels))]
 fn seen_from(input: &Input, at: Pixel) -> Seen
     requires { Spot input.now.w input.now.h at.i at.x at.y }
     ensures { SeenAt input.now.w input.now.image.now at.i result }
