@@ -40,7 +40,7 @@ struct Change {
 }
 
 // A call: the counts, the lengths that are lent (bytes: of the picture or the destination), the numbers that are
-// changed, what it has to answer and, where it paints, how many pixels.
+// changed, and how many pixels it paints or stores, or why it is refused.
 #[derive(Clone, Copy)]
 struct SheetEdge {
     size: Size,
@@ -48,8 +48,7 @@ struct SheetEdge {
     lengths: Lengths,
     bytes: usize,
     changes: [Option<Change>; 2],
-    expected: Result<(), Refusal>,
-    painted: usize,
+    expected: Result<usize, Refusal>,
 }
 
 // Painting 3 × 2 pixels, all in the cluster of slot 1, which is put out twice; lent what they ask for.
@@ -64,8 +63,7 @@ const PAINT: SheetEdge = SheetEdge {
     },
     bytes: 24,
     changes: [None, None],
-    expected: Ok(()),
-    painted: 6,
+    expected: Ok(6),
 };
 
 // Storing the same.
@@ -129,7 +127,8 @@ impl SheetEdge {
 
     // The same, where it paints so many pixels.
     fn painting(self, painted: usize) -> Self {
-        SheetEdge { painted, ..self }
+        let expected = Ok(painted);
+        SheetEdge { expected, ..self }
     }
 
     // The same, where it is refused.
@@ -309,11 +308,10 @@ impl SheetEdge {
             buffers.clusters(self.size, self.counts),
             &mut picture,
         );
-        let is_right = match answer {
-            Ok(()) => shows(&picture, self.painted),
-            Err(_) => are_filled(&picture, 0),
-        };
-        Ok(is_right & (answer == self.expected))
+        Ok(match self.expected {
+            Ok(painted) => answer.is_ok() & shows(&picture, painted),
+            Err(refusal) => (answer == Err(refusal)) & are_filled(&picture, 0),
+        })
     }
 
     // Stores, and tells whether that went right.
@@ -322,11 +320,10 @@ impl SheetEdge {
         let mut sheet = filled(alloc, self.bytes)?;
         let clusters = buffers.clusters(self.size, self.counts);
         let answer = sheet::store(clusters, &buffers.labels, &mut sheet);
-        let is_right = match answer {
-            Ok(()) => is_sheet(&sheet, clusters, &buffers.labels),
-            Err(_) => are_filled(&sheet, 0),
-        };
-        Ok(is_right & (answer == self.expected))
+        Ok(match self.expected {
+            Ok(_) => answer.is_ok() & is_sheet(&sheet, clusters, &buffers.labels),
+            Err(refusal) => (answer == Err(refusal)) & are_filled(&sheet, 0),
+        })
     }
 }
 
