@@ -22,14 +22,14 @@ pub record IsSheetOf (clusters : Clusters) (bytes : ℕ) (sheet : Sheet) : Type 
 abbrev pub entries_answer : Sheet → ℕ
 entries_answer s = rules.entries_answer s.size s.n s.links.now s.table.now s.outputs.now (length s.outputs.now)
 
--- slot k has passed checks 8, 9 and 10
+-- what checks 8, 9 and 10 have shown of slot k, as far as painting it asks
 pub record Passed (s : Sheet) (k : ℕ) : Type 0 where
   pub slot : k < s.n
   pub average : T (has_average (slot_residue s.table.now k))
   pub listed : T (reads s.size s.links.now (slot_number s.table.now k first_pixel_place)
       (slot_number s.table.now k pixel_count_place))
 
--- each entry has passed them
+-- they have shown it of each entry
 abbrev pub EntriesPass : Sheet → List ℕ → Type 0
 EntriesPass s entries = All (Passed s) entries
 
