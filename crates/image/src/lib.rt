@@ -27,6 +27,13 @@ pub struct Counts {
     pub m: u32,
 }
 
+// A list of pixels, or the rest of one: its first pixel, plus one, and how many pixels it has along the links.
+#[derive(Clone, Copy, Debug, PartialEq, Eq)]
+pub struct PixelList {
+    pub first: u32,
+    pub count: u32,
+}
+
 // What a run left for the calls after it. It may be anything, also what no run made.
 #[derive(Clone, Copy)]
 pub struct Clusters<'a> {
