@@ -7,22 +7,22 @@ ghost use Rattle.refusal.specs.Refusal.{number_of, answer_of};
 use std::error::Error;
 use std::fmt;
 
-// A failed check.
+// A failed check, by its number.
 #[derive(Clone, Copy, Debug, PartialEq, Eq, PartialOrd, Ord, Hash)]
 pub enum Refusal {
-    Shift,
-    NoPixels,
-    TooManyPixels,
-    ImageLength,
-    BufferLength,
-    PictureLength,
-    SumTooLarge,
-    NoSlot,
-    NoAverage,
-    BadList,
-    NoRow,
-    LargeNumber,
-    DestinationLength,
+    Shift = 1,
+    NoPixels = 2,
+    TooManyPixels = 3,
+    ImageLength = 4,
+    BufferLength = 5,
+    PictureLength = 6,
+    SumTooLarge = 7,
+    NoSlot = 8,
+    NoAverage = 9,
+    BadList = 10,
+    NoRow = 11,
+    LargeNumber = 12,
+    DestinationLength = 13,
 }
 
 impl Refusal {
@@ -30,21 +30,7 @@ impl Refusal {
     pub fn number(self) -> u32
         ensures { result ≡ number_of self }
     {
-        match self {
-            Refusal::Shift => 1,
-            Refusal::NoPixels => 2,
-            Refusal::TooManyPixels => 3,
-            Refusal::ImageLength => 4,
-            Refusal::BufferLength => 5,
-            Refusal::PictureLength => 6,
-            Refusal::SumTooLarge => 7,
-            Refusal::NoSlot => 8,
-            Refusal::NoAverage => 9,
-            Refusal::BadList => 10,
-            Refusal::NoRow => 11,
-            Refusal::LargeNumber => 12,
-            Refusal::DestinationLength => 13,
-        }
+        self as u32
     }
 }
 
