@@ -1,10 +1,7 @@
 -- The settings as the exported calls take them, one by one.
-use Rattle.std.specs.Prelude.{ℕ, eqb, ℤ, if◌then◌else◌}
-use Rattle.rules.specs.Color.{RunnerConfig, KeyingAction, Keep, Discard, rgba}
-
--- 0 keeps, any other number discards
-abbrev pub action_at : ℕ → KeyingAction
-action_at action = if eqb action 0 then Keep else Discard
+use Rattle.std.specs.Prelude.{ℕ, ℤ}
+use Rattle.rules.specs.Color.{RunnerConfig, rgba}
+use Rattle.runner.specs.Types.{action_at}
 
 -- the settings, put together
 abbrev pub settings : ℤ → ℤ → ℕ → ℕ → ℕ → ℕ → ℤ → ℕ → ℕ → ℕ → ℕ → ℕ → RunnerConfig

@@ -5,8 +5,8 @@ ghost use Rattle.rules.specs.Calls.{as_buffers, answered, with_picture, run_call
 ghost use Rattle.rules.specs.Calls.{store_call};
 ghost use Rattle.rules.specs.Calls as rules;
 ghost use Rattle.rules.specs.Demand3.{Demand3Left};
-ghost use Rattle.runner.specs.Types.{action_of, config_of, ran_of};
-ghost use Rattle.color_clusters.specs.Exports.{action_at, settings};
+ghost use Rattle.runner.specs.Types.{config_of, ran_of};
+ghost use Rattle.color_clusters.specs.Exports.{settings};
 
 use color::Color;
 use image::{Clusters, Counts, Size};
@@ -41,16 +41,6 @@ impl From<Result<Counts, Refusal>> for Answer {
     }
 }
 
-// 0 keeps pixels of the key colour, any other number discards them.
-fn action_of(action: u32) -> KeyingAction
-    ensures { action_of result ≡ action_at action }
-{
-    match action {
-        0 => KeyingAction::Keep,
-        _ => KeyingAction::Discard,
-    }
-}
-
 // The settings, put together.
 fn config(
     is_same_color_a: i32,
@@ -76,7 +66,7 @@ fn config(
         b: key_b,
         a: key_a,
     };
-    let keying_action = action_of(action);
+    let keying_action = KeyingAction::from(action);
     RunnerConfig {
         is_same_color_a,
         is_same_color_b,

@@ -65,10 +65,7 @@ impl<'a> Reader<'a> {
 
     // A keying action.
     pub fn keying_action(&mut self) -> Option<KeyingAction> {
-        match self.number()? {
-            0 => Some(KeyingAction::Keep),
-            _ => Some(KeyingAction::Discard),
-        }
+        self.number().map(KeyingAction::from)
     }
 
     // Settings.

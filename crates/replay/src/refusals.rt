@@ -144,12 +144,7 @@ fn settings(shift: i32) -> RunnerConfig {
         good_max_area: 65536,
         hollow_neighbours: 1,
         deepen_diff: 64,
-        key_color: Color {
-            r: 0,
-            g: 0,
-            b: 0,
-            a: 0,
-        },
+        key_color: Color::default(),
         keying_action: KeyingAction::Keep,
     }
 }

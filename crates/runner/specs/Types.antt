@@ -1,5 +1,5 @@
 -- The declared types as values of the rules.
-use Rattle.std.specs.Prelude.{◌≡◌, Result, Ok, Err}
+use Rattle.std.specs.Prelude.{◌≡◌, ℕ, eqb, if◌then◌else◌, Result, Ok, Err}
 use Rattle.rules.specs.Calls as calls
 use Rattle.refusal.specs.declared.Refusal.{Refusal}
 use Rattle.refusal.specs.Refusal.{number_of}
@@ -21,6 +21,10 @@ rect_of r = record { left = r.left; top = r.top; right = r.right; bottom = r.bot
 abbrev pub action_of : KeyingAction → colors.KeyingAction
 action_of Keep = colors.Keep
 action_of Discard = colors.Discard
+
+-- 0 keeps them, any other number discards them
+abbrev pub action_at : ℕ → colors.KeyingAction
+action_at action = if eqb action 0 then colors.Keep else colors.Discard
 
 -- the settings, field by field
 abbrev pub config_of : RunnerConfig → colors.RunnerConfig

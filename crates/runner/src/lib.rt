@@ -5,7 +5,6 @@ mod bound;
 mod buffers;
 mod builder;
 mod calls;
-mod checks;
 mod cluster;
 mod geometry;
 mod input;
@@ -20,7 +19,7 @@ mod stage2;
 
 ghost use Rattle.std.specs.Prelude.{◌≡◌};
 ghost use Rattle.rules.specs.Calls.{run_call};
-ghost use Rattle.runner.specs.Types.{config_of, buffers_of, SameLoans, ran_of};
+ghost use Rattle.runner.specs.Types.{action_of, action_at, config_of, buffers_of, SameLoans, ran_of};
 
 pub use buffers::Buffers;
 use color::Color;
@@ -32,6 +31,18 @@ use refusal::Refusal;
 pub enum KeyingAction {
     Keep,
     Discard,
+}
+
+impl From<u32> for KeyingAction {
+    ghost from_gives = { λ number action. action_of action ≡ action_at number };
+
+    // 0 keeps pixels of the key colour, any other number discards them.
+    fn from(number: u32) -> KeyingAction {
+        match number {
+            0 => KeyingAction::Keep,
+            _ => KeyingAction::Discard,
+        }
+    }
 }
 
 // `hierarchical` of a run that deepens.
