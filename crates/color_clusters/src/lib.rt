@@ -12,7 +12,7 @@ ghost use Rattle.rules.specs.Calls as rules;
 ghost use Rattle.rules.specs.Demand3.{Demand3Left};
 ghost use Rattle.runner.specs.Types.{config_of, buffers_of, SameLoans, ran_of};
 
-use image::{Clusters, Counts, Size};
+use image::{Clusters, Counts, Size, layout};
 use refusal::Refusal;
 use runner::{Buffers, RunnerConfig};
 
@@ -61,7 +61,7 @@ pub fn run_and_paint(
         buffers.new.labels.now buffers.new.links.now buffers.new.table.now picture.new) }
 {
     let pixels = buffers.pixels(o, size, image)?;
-    if picture.len() != 4 * pixels as usize {
+    if !layout::four_each(picture, pixels) {
         return Err(Refusal::PictureLength);
     }
     Ok(run_then_paint(o, size, image, buffers, picture))

@@ -26,16 +26,16 @@ pub(crate) struct Sheet<'a> {
 impl<'a> Sheet<'a> {
     ghost use Rattle.container.specs.Code.Checked.{IsSheetOf};
 
-    // The sheet of clusters, where the checks before those of the entries pass; picture is a length.
+    // The sheet of clusters, where the checks before those of the entries pass.
     #[tactic(auto, using(crate::proofs::Accepted::answers))]
-    pub(crate) fn checked(clusters: Clusters<'a>, picture: usize) -> Result<Sheet<'a>, Refusal>
+    pub(crate) fn checked(clusters: Clusters<'a>, picture: &[u8]) -> Result<Sheet<'a>, Refusal>
         ensures answer { let s = clusters.entry in
             answer_of result ≡ paint_answer s.size.w s.size.h (length s.links.now) (length s.table.now)
-            (length s.outputs.now) picture s.counts.n s.counts.m }
-        ensures sheet { IfOk result (IsSheetOf clusters.entry picture) }
+            (length s.outputs.now) (length picture.now) s.counts.n s.counts.m }
+        ensures sheet { IfOk result (IsSheetOf clusters.entry (length picture.now)) }
     {
         let size = clusters.pixels()?;
-        if picture != 4 * size as usize {
+        if !layout::four_each(picture, size) {
             return Err(Refusal::PictureLength);
         }
         Ok(Sheet {

@@ -26,5 +26,5 @@ pub fn to_color_image(clusters: Clusters, picture: &mut [u8]) -> Result<(), Refu
     ensures { let s = clusters.entry in record { answer = answer_of result; picture = picture.new }
         ≡ paint_call s.size.w s.size.h s.links.now s.table.now s.outputs.now picture.old s.counts.n s.counts.m }
 {
-    Sheet::checked(clusters, picture.len())?.paint(picture)
+    Sheet::checked(clusters, picture)?.paint(picture)
 }

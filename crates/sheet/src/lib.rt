@@ -9,7 +9,7 @@ ghost use Rattle.rules.specs.Refusals.{row_answer};
 ghost use Rattle.rules.specs.Calls.{row_call, store_call};
 ghost use Rattle.refusal.specs.Refusal.{answer_of};
 
-use image::{Clusters, Size};
+use image::{Clusters, Size, layout};
 use refusal::Refusal;
 
 // Whether `row` gives a row on the same inputs.
@@ -18,7 +18,7 @@ pub fn row_check(size: Size, picture: &[u8], y: u32) -> Result<(), Refusal>
     ensures { answer_of result ≡ row_answer size.w size.h (length picture.now) y }
 {
     let pixels = size.pixels()?;
-    if picture.len() != 4 * pixels as usize {
+    if !layout::four_each(picture, pixels) {
         return Err(Refusal::PictureLength);
     }
     if size.h <= y {
