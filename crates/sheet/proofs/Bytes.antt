@@ -19,7 +19,7 @@ use Rattle.rules.specs.Paint.{slot_number}
 use Rattle.rules.specs.Stored.{is_large, two_bytes, stored_bytes, pixel_numbers, slot_numbers, stored_numbers}
 use Rattle.std.proofs.lemmas.List.{take_all, take_more}
 use Rattle.refusal.proofs.Laws.{refused_number}
-use Rattle.sheet.proofs.Accepted.{buffers-accepted}
+use Rattle.sheet.proofs.Accepted.{store-number}
 use Rattle.rules.proofs.Accepted.{neither}
 use Rattle.rules.proofs.Layouts.{flatten-snoc, spread}
 
@@ -195,4 +195,4 @@ pub ruleset large_laws = (stored-large, two-lists, or_assoc)
 
 pub ruleset put_laws = (small_at, take_put, written-whole, pairs-put, pairs-length, take_all)
 
-pub ruleset check_laws = (refused_number, buffers-accepted, stored-length)
+pub ruleset check_laws = (refused_number, store-number, stored-length)

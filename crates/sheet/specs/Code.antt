@@ -1,3 +1,3 @@
 -- What only code and proofs need.
-pub mod Lengths
+pub mod Stored
 pub mod Pairs

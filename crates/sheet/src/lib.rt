@@ -11,6 +11,7 @@ ghost use Rattle.refusal.specs.Refusal.{answer_of};
 
 use image::{Clusters, Size, layout};
 use refusal::Refusal;
+use stored::Stored;
 
 // Whether `row` gives a row on the same inputs.
 #[tactic(auto, unfolding(rules::specs::Refusals::row_answer))]
@@ -42,13 +43,12 @@ pub fn row(size: Size, picture: &[u8], y: u32) -> &[u8]
 
 // Stores the sheet in two-byte numbers, low byte first: w, h, n, m; label and link of each pixel; first pixel and count
 // of each slot; the outputs.
-#[tactic(auto, unfolding(rules::specs::Calls::store_call), using(crate::proofs::Accepted::store_laws))]
+#[tactic(auto, unfolding(rules::specs::Calls::store_call), using(refusal::proofs::Laws::refused_number))]
 pub fn store(clusters: Clusters, labels: &[u32], destination: &mut [u8]) -> Result<(), Refusal>
     ensures { let s = clusters.entry in record { answer = answer_of result; destination = destination.new }
         ≡ store_call s.size.w s.size.h labels.now s.links.now s.table.now s.outputs.now
         destination.old s.counts.n s.counts.m }
 {
-    stored::check(clusters, labels, destination.len())?;
-    stored::write(clusters, labels, destination);
+    Stored::checked(clusters, labels, destination)?.write(destination);
     Ok(())
 }

@@ -1,14 +1,14 @@
 // The stored sheet: its checks, and its bytes.
-ghost use Rattle.std.specs.Prelude.{◌≡◌, false, ◌||◌, [], ◌∷◌, ◌++◌, ℕ, ◌+◌, ◌*◌, ◌≤◌, ◌<◌, ltb, length, IfOk};
+ghost use Rattle.std.specs.Prelude.{◌≡◌, false, ℕ, ◌+◌, ◌*◌, ◌≤◌, ◌<◌, length, IfOk};
 ghost use Rattle.std.proofs.lemmas.List.Edits.{sets};
-ghost use Rattle.rules.specs.Refusals.{first_failed, refusal, size_checks, short_sheet, bad_counts, store_answer};
-ghost use Rattle.rules.specs.Stored.{stored_numbers, stored_bytes, is_large, two_bytes, slot_numbers};
+ghost use Rattle.rules.specs.Refusals.{store_answer};
+ghost use Rattle.rules.specs.Stored.{stored_bytes, is_large, two_bytes, slot_numbers};
 ghost use Rattle.rules.specs.Layout.{slot_width};
 ghost use Rattle.refusal.specs.Refusal.{answer_of};
-ghost use Rattle.sheet.specs.Code.Lengths.{CanStore};
+ghost use Rattle.sheet.specs.Code.Stored.{CanStore, numbers_of, early_answer};
 ghost use Rattle.sheet.specs.Code.Pairs.{pairs};
 
-use image::{Clusters, layout};
+use image::{Clusters, Counts, layout};
 use refusal::Refusal;
 
 // The largest number of two bytes.
@@ -78,105 +78,120 @@ fn put_pairs<F: Fn(usize) -> u32, G: Fn(usize) -> u32>(
     }
 }
 
-// Whether a number to be stored takes more than two bytes.
-#[tactic(auto, unfolding(rules::specs::Stored::pixel_numbers), using(crate::proofs::Bytes::large_laws))]
-fn is_too_large(clusters: Clusters, labels: &[u32], pixels: usize) -> bool
-    requires can_store { let s = clusters in
-        CanStore pixels s.counts.n s.counts.m (length labels.now) (length s.links.now) (length s.table.now)
-        (length s.outputs.now) }
-    requires pixels { pixels ≡ clusters.size.w * clusters.size.h }
-    ensures { let s = clusters.entry in result ≡ is_large (stored_numbers s.size.w s.size.h labels.now
-        s.links.now s.table.now s.outputs.now s.counts.n s.counts.m) }
-{
-    let Clusters {
-        size,
-        counts,
-        links,
-        table,
-        outputs,
-    } = clusters;
-    has_large(&[size.w, size.h, counts.n, counts.m])
-        | has_large(&labels[..pixels])
-        | has_large(&links[..pixels])
-        | has_large_slot(table, counts.n as usize)
-        | has_large(&outputs[..counts.m as usize])
+// The sheet that is stored: clusters with labels, where checks 2, 3 and 5 pass, and how many pixels they have.
+#[derive(Clone, Copy)]
+pub(crate) struct Stored<'a> {
+    clusters: Clusters<'a>,
+    labels: &'a [u32],
+    pixels: usize,
+    ghost size: { pixels ≡ clusters.size.w * clusters.size.h },
+    ghost can_store: { CanStore clusters (length labels.now) },
 }
 
-// The number of pixels, where checks 2, 3 and 5 of storing pass; labels is a length.
-fn checked_pixels(clusters: Clusters, labels: usize) -> Result<u32, Refusal>
-    ensures answer { let s = clusters.entry in
-        answer_of result
-        ≡ first_failed
-        (size_checks s.size.w s.size.h
-        ++ (refusal 5
-        (ltb labels (s.size.w * s.size.h)
-        || short_sheet (s.size.w * s.size.h) (length s.links.now) (length s.table.now) (length s.outputs.now)
-        || bad_counts (s.size.w * s.size.h) s.counts.n s.counts.m) ∷ [])) }
-    ensures pixels { IfOk result (λ pixels. pixels ≡ clusters.entry.size.w * clusters.entry.size.h) }
-{
-    let pixels = clusters.pixels()?;
-    if labels < pixels as usize {
-        return Err(Refusal::BufferLength);
+impl<'a> Stored<'a> {
+    // The sheet, where checks 2, 3 and 5 pass.
+    #[tactic(auto, using(crate::proofs::Accepted::fits))]
+    fn fitting(clusters: Clusters<'a>, labels: &'a [u32]) -> Result<Stored<'a>, Refusal>
+        ensures answer { answer_of result ≡ early_answer clusters.entry (length labels.now) }
+        ensures sheet { IfOk result (λ s. (s.clusters ≡ clusters.entry) × (s.labels.now ≡ labels.now)) }
+    {
+        let pixels = clusters.pixels()? as usize;
+        if labels.len() < pixels {
+            return Err(Refusal::BufferLength);
+        }
+        Ok(Stored {
+            clusters,
+            labels,
+            pixels,
+        })
     }
-    Ok(pixels)
-}
 
-// The checks of storing; destination is a length.
-#[tactic(auto, unfolding(rules::specs::Refusals::store_answer), using(crate::proofs::Bytes::check_laws))]
-pub(crate) fn check(clusters: Clusters, labels: &[u32], destination: usize) -> Result<(), Refusal>
-    ensures { let s = clusters.entry in
-        let numbers = stored_numbers s.size.w s.size.h labels.now s.links.now s.table.now s.outputs.now
-        s.counts.n s.counts.m in
-        answer_of result
-        ≡ store_answer s.size.w s.size.h (length labels.now) (length s.links.now) (length s.table.now)
-        (length s.outputs.now) destination s.counts.n s.counts.m (is_large numbers) (2 * length numbers) }
-{
-    let pixels = checked_pixels(clusters, labels.len())? as usize;
-    if is_too_large(clusters, labels, pixels) {
-        return Err(Refusal::LargeNumber);
+    // The sheet, where all checks of storing pass.
+    #[tactic(auto, unfolding(rules::specs::Refusals::store_answer), using(crate::proofs::Bytes::check_laws))]
+    pub(crate) fn checked(
+        clusters: Clusters<'a>,
+        labels: &'a [u32],
+        destination: &[u8],
+    ) -> Result<Stored<'a>, Refusal>
+        ensures answer { let s = clusters.entry in let numbers = numbers_of s labels.now in
+            answer_of result
+            ≡ store_answer s.size.w s.size.h (length labels.now) (length s.links.now) (length s.table.now)
+            (length s.outputs.now) (length destination.now) s.counts.n s.counts.m (is_large numbers)
+            (2 * length numbers) }
+        ensures sheet { IfOk result (λ s. (s.clusters ≡ clusters.entry) × (s.labels.now ≡ labels.now)
+            × (is_large (numbers_of s.clusters s.labels.now) ≡ false)
+            × (length destination.now ≡ 2 * length (numbers_of s.clusters s.labels.now))) }
+    {
+        let sheet = Stored::fitting(clusters, labels)?;
+        if sheet.is_too_large() {
+            return Err(Refusal::LargeNumber);
+        }
+        if destination.len() != sheet.length() {
+            return Err(Refusal::DestinationLength);
+        }
+        Ok(sheet)
     }
-    let counts = clusters.counts;
-    if destination != 8 + 4 * pixels + 4 * counts.n as usize + 2 * counts.m as usize {
-        return Err(Refusal::DestinationLength);
-    }
-    Ok(())
-}
 
-// Writes the sheet.
-#[tactic(auto, using(crate::proofs::Slots::write_laws))]
-pub(crate) fn write(clusters: Clusters, labels: &[u32], destination: &mut [u8])
-    requires can_store { let s = clusters in
-        CanStore (s.size.w * s.size.h) s.counts.n s.counts.m (length labels.now) (length s.links.now)
-        (length s.table.now) (length s.outputs.now) }
-    requires small { let s = clusters in is_large (stored_numbers s.size.w s.size.h labels.now s.links.now
-        s.table.now s.outputs.now s.counts.n s.counts.m) ≡ false }
-    requires exact { let s = clusters in
-        length destination.old ≡ 2 * length (stored_numbers s.size.w s.size.h labels.now
-        s.links.now s.table.now s.outputs.now s.counts.n s.counts.m) }
-    ensures { let s = clusters.entry in
-        destination.new ≡ stored_bytes (stored_numbers s.size.w s.size.h labels.now
-        s.links.now s.table.now s.outputs.now s.counts.n s.counts.m) }
-{
-    let Clusters {
-        size,
-        counts,
-        links,
-        table,
-        outputs,
-    } = clusters;
-    let pixels = (size.w * size.h) as usize;
-    let n = counts.n as usize;
-    let (slots, _) = table.as_chunks::<{ layout::SLOT_WIDTH }>();
-    let (of_sheet, rest) = destination.split_at_mut(8);
-    let (of_pixels, rest) = rest.split_at_mut(4 * pixels);
-    let (of_slots, of_outputs) = rest.split_at_mut(4 * n);
-    put_all(of_sheet, &[size.w, size.h, counts.n, counts.m]);
-    put_pairs(of_pixels, pixels, |p| labels[p], |p| links[p]);
-    put_pairs(
-        of_slots,
-        n,
-        |k| slots[k][layout::FIRST_PIXEL],
-        |k| slots[k][layout::PIXEL_COUNT],
-    );
-    put_all(of_outputs, &outputs[..counts.m as usize]);
+    // How many bytes are stored.
+    #[tactic(auto, using(crate::proofs::Bytes::check_laws))]
+    fn length(self) -> usize
+        ensures { let s = self.entry in result ≡ 2 * length (numbers_of s.clusters s.labels.now) }
+    {
+        let Counts { n, m } = self.clusters.counts;
+        8 + 4 * self.pixels + 4 * n as usize + 2 * m as usize
+    }
+
+    // Whether a number to be stored takes more than two bytes.
+    #[tactic(auto, unfolding(rules::specs::Stored::pixel_numbers), using(crate::proofs::Bytes::large_laws))]
+    fn is_too_large(self) -> bool
+        ensures { let s = self.entry in result ≡ is_large (numbers_of s.clusters s.labels.now) }
+    {
+        let Clusters {
+            size,
+            counts,
+            links,
+            table,
+            outputs,
+        } = self.clusters;
+        has_large(&[size.w, size.h, counts.n, counts.m])
+            | has_large(&self.labels[..self.pixels])
+            | has_large(&links[..self.pixels])
+            | has_large_slot(table, counts.n as usize)
+            | has_large(&outputs[..counts.m as usize])
+    }
+
+    // Writes the sheet.
+    #[tactic(auto, using(crate::proofs::Slots::write_laws))]
+    pub(crate) fn write(self, destination: &mut [u8])
+        requires small { is_large (numbers_of self.clusters self.labels.now) ≡ false }
+        requires exact { length destination.old ≡ 2 * length (numbers_of self.clusters self.labels.now) }
+        ensures { let s = self.entry in destination.new ≡ stored_bytes (numbers_of s.clusters s.labels.now) }
+    {
+        let Stored {
+            clusters,
+            labels,
+            pixels,
+        } = self;
+        let Clusters {
+            size,
+            counts,
+            links,
+            table,
+            outputs,
+        } = clusters;
+        let n = counts.n as usize;
+        let (slots, _) = table.as_chunks::<{ layout::SLOT_WIDTH }>();
+        let (of_sheet, rest) = destination.split_at_mut(8);
+        let (of_pixels, rest) = rest.split_at_mut(4 * pixels);
+        let (of_slots, of_outputs) = rest.split_at_mut(4 * n);
+        put_all(of_sheet, &[size.w, size.h, counts.n, counts.m]);
+        put_pairs(of_pixels, pixels, |p| labels[p], |p| links[p]);
+        put_pairs(
+            of_slots,
+            n,
+            |k| slots[k][layout::FIRST_PIXEL],
+            |k| slots[k][layout::PIXEL_COUNT],
+        );
+        put_all(of_outputs, &outputs[..counts.m as usize]);
+    }
 }
