@@ -154,11 +154,11 @@ module _ {o : RunnerConfig} {w h : ℕ} {image : List ℕ} {q : Queue} {k : ℕ}
     pub can-hollow : CanHollow k t B H
     can-hollow = record {
       slot = omega (arith, R.tabled.long, A.ranged.slots, target-slot);
-      small = (omega (arith, A.image-fits.small, A.ranged.slots, own-slot), omega (arith, A.image-fits.small, A.ranged.slots, target-slot));
+      small = omega (arith, A.image-fits.small, A.ranged.slots, own-slot);
       end = omega (arith, X.room, A.ranged.slots, target-slot);
       holes = omega (arith, count, A.ranged.holes t, A.image-fits.small);
       child = λ z. let y = hole-tail-fits X (deepen-holes a k s (going A) (some-pixels A) refl t N false A.holes) t (omega (arith, z, own)) in
-          (y.0, omega (arith, y.1, slots, A.ranged.slots, A.image-fits.small), omega (arith, y.0, y.1, slots, A.ranged.slots, R.tabled.long));
+          (y.0, omega (arith, y.0, y.1, slots, A.ranged.slots, R.tabled.long));
     }
       where
         own : get_or B (slot_width * t + num_holes_place) 0 ≡ length (cluster (deepen_cluster_into false k t q.now) t).holes

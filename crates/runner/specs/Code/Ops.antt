@@ -86,11 +86,11 @@ pub record Deepened (f t : ℕ) (L K B E L' K' B' E' : List ℕ) : Type 0 where
 -- f can be appended to the hole children of t, the last of which H has
 pub record CanHollow (f t : ℕ) (B H : List ℕ) : Type 0 where
   pub slot : slot_width * t + slot_width ≤ length B
-  pub small : (f < count_bound) × (t < count_bound)
+  pub small : f < count_bound
   pub end : t < length H
   pub holes : get_or B (slot_width * t + num_holes_place) 0 < count_bound
   pub child : 0 < get_or B (slot_width * t + num_holes_place) 0 → (0 < get_or H t 0)
-      × (get_or H t 0 < count_bound) × (slot_width * (get_or H t 0 - 1) + slot_width ≤ length B)
+      × (slot_width * (get_or H t 0 - 1) + slot_width ≤ length B)
 
 -- where a hole list begins or goes on
 abbrev pub hole_link : ℕ → ℕ → ℕ → ℕ
