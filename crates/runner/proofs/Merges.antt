@@ -16,18 +16,18 @@ use Rattle.rules.specs.Code.Ranges.{Fits}
 use Rattle.rules.proofs.Facts.{eqb_no}
 use Rattle.rules.proofs.Visits.{Near}
 use Rattle.rules.proofs.Visits as visits
-use Rattle.rules.proofs.Holes.{deepen-holes, deepen-t-holes}
+use Rattle.rules.proofs.Holes.{merge-same-holes, deepen-holes, deepen-t-holes}
 use Rattle.rules.specs.Code.Bounds.{count_bound, capacity}
 use Rattle.color.specs.Colors.{sum_of}
 use Rattle.runner.specs.declared.slot.Head.{Head}
 use Rattle.runner.specs.Code.Slots.{Adds, head_at, head_of, saved_head, residue_at, saved_residue}
-use Rattle.runner.specs.Code.Rep.{Rep, link_after}
+use Rattle.runner.specs.Code.Rep.{Rep, HoleEnds, link_after}
 use Rattle.runner.specs.Code.Ops.{Open, CanAppend, CanMerge, Merged, CanDeepen, Deepened, CanHollow, Hollowed}
 use Rattle.runner.proofs.Ops.{residue-head}
 use Rattle.runner.proofs.Tables.{head-at, residue-at, depth-at, holes-at}
 use Rattle.runner.proofs.RepReads.{root-chain, rep-reads, rep-walk, rep-tail, rep-labels-length, rep-links-length}
-use Rattle.runner.proofs.RepStage2.{rep-merge, rep-deepen}
-use Rattle.runner.proofs.RepHollow.{hole-tail-fits, rep-hollow}
+use Rattle.runner.proofs.RepStage2.{holes-same, deepen-same-holes, rep-merge, rep-deepen}
+use Rattle.runner.proofs.RepHollow.{hole-tail-fits, rep-hollow, hole-ends-hollow}
 use Rattle.runner.proofs.Moment.{At, going, some-pixels, slot-fits}
 use Rattle.runner.proofs.Stage1Laws.{rep-is}
 
@@ -136,22 +136,29 @@ module _ {o : RunnerConfig} {w h : ℕ} {image : List ℕ} {q : Queue} {k : ℕ}
         d : head_at B t ≡ head_of (cluster q.now t)
         d = head t target-slot
 
+  -- neither changes a hole list
+  pub merged-holes : {H : List ℕ} → HoleEnds (w * h) q.now H → HoleEnds (w * h) (merge_cluster_into k t q.now) H
+  merged-holes = holes-same (merge-same-holes a k s (going A) (some-pixels A) refl t N)
+
+  pub deepened-holes : {H : List ℕ} → HoleEnds (w * h) q.now H → HoleEnds (w * h) (deepen_cluster_into false k t q.now) H
+  deepened-holes = holes-same (deepen-same-holes a k s (going A) (some-pixels A) refl t N)
+
   -- and a hole child
-  module _ {t₀ L K B E : List ℕ} (R : Rep (w * h) (deepen_cluster_into false k t q.now) t₀ L K B E) (fits : slot_width * (w * h + 1) ≤ length t₀) where
+  module _ {t₀ L K B E H : List ℕ} (R : Rep (w * h) (deepen_cluster_into false k t q.now) t₀ L K B E) (X : HoleEnds (w * h) (deepen_cluster_into false k t q.now) H) (fits : slot_width * (w * h + 1) ≤ length t₀) where
     slots : length (deepen_cluster_into false k t q.now).clusters ≡ length q.now.clusters
     slots = (visits.deepen-changes a k s (going A) (some-pixels A) refl t N false).table
 
     held : t < length (deepen_cluster_into false k t q.now).clusters
     held = omega (arith, slots, target-slot)
 
-    pub can-hollow : CanHollow (w * h + 1) k t B E
+    pub can-hollow : CanHollow k t B H
     can-hollow = record {
       slot = omega (arith, R.tabled.long, A.ranged.slots, target-slot);
-      small = (omega (arith, A.image-fits.small), omega (arith, A.image-fits.small, A.ranged.slots, own-slot), omega (arith, A.image-fits.small, A.ranged.slots, target-slot));
-      end = omega (arith, R.room, A.ranged.slots, target-slot);
+      small = omega (arith, A.image-fits.small, A.ranged.slots, own-slot);
+      end = omega (arith, X.room, A.ranged.slots, target-slot);
       holes = omega (arith, count, A.ranged.holes t, A.image-fits.small);
-      child = λ z. let y = hole-tail-fits R (deepen-holes a k s (going A) (some-pixels A) refl t N false A.holes) t (omega (arith, z, own)) in
-          (y.0, omega (arith, y.1, slots, A.ranged.slots, A.image-fits.small), omega (arith, y.0, y.1, slots, A.ranged.slots, R.tabled.long));
+      child = λ z. let y = hole-tail-fits X (deepen-holes a k s (going A) (some-pixels A) refl t N false A.holes) t (omega (arith, z, own)) in
+          (y.0, omega (arith, y.0, y.1, slots, A.ranged.slots, R.tabled.long));
     }
       where
         own : get_or B (slot_width * t + num_holes_place) 0 ≡ length (cluster (deepen_cluster_into false k t q.now) t).holes
@@ -160,5 +167,8 @@ module _ {o : RunnerConfig} {w h : ℕ} {image : List ℕ} {q : Queue} {k : ℕ}
         count : get_or B (slot_width * t + num_holes_place) 0 ≡ length (cluster q.now t).holes
         count = own ∙ ap length (deepen-t-holes a k s (going A) (some-pixels A) refl t N false)
 
-    pub hollowed-rep : {B' E' : List ℕ} → Hollowed (w * h + 1) k t B E B' E' → Rep (w * h) (deepen_cluster_into true k t q.now) t₀ L K B' E'
-    hollowed-rep H = rep-is refl refl H.table H.ends (rep-hollow a k s (going A) (some-pixels A) refl t N A.holes R A.ranged.slots (all_fit (length t₀) fits))
+    pub hollowed-rep : {B' H' : List ℕ} → Hollowed k t B H B' H' → Rep (w * h) (deepen_cluster_into true k t q.now) t₀ L K B' E
+    hollowed-rep Z = rep-is refl refl Z.table refl (rep-hollow a k s (going A) (some-pixels A) refl t N A.holes R X A.ranged.slots (all_fit (length t₀) fits))
+
+    pub hollowed-holes : {B' H' : List ℕ} → Hollowed k t B H B' H' → HoleEnds (w * h) (deepen_cluster_into true k t q.now) H'
+    hollowed-holes Z = subst (HoleEnds (w * h) (deepen_cluster_into true k t s)) (sym Z.ends) (hole-ends-hollow a k s (going A) (some-pixels A) refl t N A.holes R X A.ranged.slots (all_fit (length t₀) fits))

@@ -18,11 +18,11 @@ use Rattle.rules.proofs.Links.{last, after_none, after-skip, after_last, after-b
 use Rattle.rules.proofs.Visits.{Going, Near, root, k≢t, t-slot, target-root, deepen-changes, deepen-from, deepen-to}
 use Rattle.rules.proofs.Holes.{Holes, root-unnamed, child-slot, deepen-t-holes, deepen-other-into, deepen-into}
 use Rattle.runner.specs.Code.Slots.{set_numbers}
-use Rattle.runner.specs.Code.Rep.{Table, Rep, last_of, written, slots_of}
+use Rattle.runner.specs.Code.Rep.{Table, Rep, HoleEnds, last_of, written, slots_of}
 use Rattle.runner.proofs.Tables.{table-set, holes-at}
 use Rattle.runner.proofs.Rows.{row_in, row_out, numbers, row, next_hole, slot_is, slot_row, Fills, table-fills}
 use Rattle.runner.proofs.RepStage2.{links-same}
-use Rattle.runner.proofs.Joined.{last-occurs, area-slot}
+use Rattle.runner.proofs.Joined.{last-occurs}
 use Rattle.runner.proofs.Tails.{last_of-last, last_of-append}
 
 -- the firsts of lists that have one
@@ -131,7 +131,7 @@ module _ {image : List ℕ} {size : ℕ} (a f : ℕ) (s : State) (G : Going imag
         ap (λ j. after (last hs) (cluster holed j).holes) (deepen-other-into a f s G pos e t N true (last hs) q≢f ∙ q-into) ∙ ap (after (last hs)) is
         ∙ after_last hs (f ∷ []) (omega (arith, q-named, H.once t (last hs))) ∙ omega arith
 
-  module _ {t₀ ls ks tb es : List ℕ} (R : Rep size (deepen_cluster_into false f t s) t₀ ls ks tb es) (few : length s.clusters ≤ size + 1) (fits : slot_width * length s.clusters ≤ length t₀) where
+  module _ {t₀ ls ks tb es ends : List ℕ} (R : Rep size (deepen_cluster_into false f t s) t₀ ls ks tb es) (X : HoleEnds size (deepen_cluster_into false f t s) ends) (few : length s.clusters ≤ size + 1) (fits : slot_width * length s.clusters ≤ length t₀) where
     held : length bare.clusters ≡ length s.clusters
     held = (deepen-changes a f s G pos e t N false).table
 
@@ -139,7 +139,7 @@ module _ {image : List ℕ} {size : ℕ} (a f : ℕ) (s : State) (G : Going imag
     start = subst (λ m. Table m (slots_of bare) t₀ tb) held R.tabled
 
     abbrev at : ℕ → ℕ
-    at x = if eqb x 0 then slot_width * t + first_hole_place else slot_width * (get_or es (size + 1 + t) 0 - 1) + next_hole_place
+    at x = if eqb x 0 then slot_width * t + first_hole_place else slot_width * (get_or ends t 0 - 1) + next_hole_place
 
     table_is : (xs : List ℕ) → hs ≡ xs → Table (length s.clusters) (slots_of holed) t₀ (set (set tb (slot_width * t + num_holes_place) (length xs + 1)) (at (length xs)) (f + 1))
     unfolding first_of
@@ -165,11 +165,11 @@ module _ {image : List ℕ} {size : ℕ} (a f : ℕ) (s : State) (G : Going imag
         q : ℕ
         q = last hs
 
-        tail : get_or es (size + 1 + t) 0 - 1 ≡ q
-        tail = omega (arith, R.hole-tails t (omega (arith, ap length was, some)), ap last_of was, last_of-last hs some)
+        tail : get_or ends t 0 - 1 ≡ q
+        tail = omega (arith, X.tails t (omega (arith, ap length was, some)), ap last_of was, last_of-last hs some)
 
         place : at (length (x ∷ xs)) ≡ slot_width * q + next_hole_place
-        place = ap (λ b. if b then slot_width * t + first_hole_place else slot_width * (get_or es (size + 1 + t) 0 - 1) + next_hole_place) (eqb_no (length (x ∷ xs)) 0 (λ y. omega arith)) ∙ ap (λ i. slot_width * i + next_hole_place) tail
+        place = ap (λ b. if b then slot_width * t + first_hole_place else slot_width * (get_or ends t 0 - 1) + next_hole_place) (eqb_no (length (x ∷ xs)) 0 (λ y. omega arith)) ∙ ap (λ i. slot_width * i + next_hole_place) tail
 
         σ : ℕ → ℕ → ℕ
         σ = written (written (slots_of bare) t 18 ((length (x ∷ xs) + 1) ∷ [])) q 20 ((f + 1) ∷ [])
@@ -193,16 +193,15 @@ module _ {image : List ℕ} {size : ℕ} (a f : ℕ) (s : State) (G : Going imag
 
     -- with the numbers that the code reads: how many children t has, and the last of them
     pub rep-hollow : Rep size (deepen_cluster_into true f t s) t₀ ls ks
-        (set (set tb (slot_width * t + num_holes_place) (get_or tb (slot_width * t + num_holes_place) 0 + 1)) (if eqb (get_or tb (slot_width * t + num_holes_place) 0) 0 then slot_width * t + first_hole_place else slot_width * (get_or es (size + 1 + t) 0 - 1) + next_hole_place) (f + 1))
-        (set es (size + 1 + t) (f + 1))
+        (set (set tb (slot_width * t + num_holes_place) (get_or tb (slot_width * t + num_holes_place) 0 + 1)) (if eqb (get_or tb (slot_width * t + num_holes_place) 0) 0 then slot_width * t + first_hole_place else slot_width * (get_or ends t 0 - 1) + next_hole_place) (f + 1))
+        es
     unfolding last_of
     rep-hollow = record {
       labelled = R.labelled ∙ same-labels;
       linked = R.linked ∙ links-same bare holed same-labels (λ k. sym (same-pixels k));
       tabled = subst (λ m. Table m (slots_of holed) t₀ (tb' (get_or tb (slot_width * t + num_holes_place) 0))) (sym whole) (subst (λ x. Table (length s.clusters) (slots_of holed) t₀ (tb' x)) (sym count) (table_is hs refl));
-      tails = λ k z y. get_or-set_other es (size + 1 + t) k (f + 1) 0 (λ v. omega (arith, area-slot holed k z, whole)) ∙ R.tails k (subst (λ l. 0 < length l) (same-pixels k) z) (sym (same-into k) ∙ y) ∙ sym (ap last_of (same-pixels k));
-      hole-tails = λ k. hole-tail k (ℕ_discrete k t);
-      room = length-set es (size + 1 + t) (f + 1) ∙ R.room;
+      tails = λ k z y. R.tails k (subst (λ l. 0 < length l) (same-pixels k) z) (sym (same-into k) ∙ y) ∙ sym (ap last_of (same-pixels k));
+      room = R.room;
     }
       where
         whole : length holed.clusters ≡ length s.clusters
@@ -214,16 +213,20 @@ module _ {image : List ℕ} {size : ℕ} (a f : ℕ) (s : State) (G : Going imag
         count : get_or tb (slot_width * t + num_holes_place) 0 ≡ length hs
         count = holes-at bare start t t-in ∙ ap length was
 
-        hole-tail : (k : ℕ) → Dec (k ≡ t) → 0 < length (cluster holed k).holes → get_or (set es (size + 1 + t) (f + 1)) (size + 1 + k) 0 ≡ last_of (cluster holed k).holes
-        hole-tail k (yes y) z = subst (λ j. get_or (set es (size + 1 + t) (f + 1)) (size + 1 + j) 0 ≡ last_of (cluster holed j).holes) (sym y)
-            (get_or-set_same es (size + 1 + t) (f + 1) 0 (omega (arith, R.room, t-in)) ∙ omega (arith, last_of-append hs (f ∷ []) (omega arith), ap last_of is))
-        hole-tail k (no y) z =
-            get_or-set_other es (size + 1 + t) (size + 1 + k) (f + 1) 0 (λ v. y (omega arith)) ∙ R.hole-tails k (subst (λ c. 0 < length c.holes) (same-cluster k y) z)
+    pub hole-ends-hollow : HoleEnds size (deepen_cluster_into true f t s) (set ends t (f + 1))
+    unfolding last_of
+    hole-ends-hollow = record { tails = λ k. tail k (ℕ_discrete k t); room = length-set ends t (f + 1) ∙ X.room }
+      where
+        tail : (k : ℕ) → Dec (k ≡ t) → 0 < length (cluster holed k).holes → get_or (set ends t (f + 1)) k 0 ≡ last_of (cluster holed k).holes
+        tail k (yes y) z = subst (λ j. get_or (set ends t (f + 1)) j 0 ≡ last_of (cluster holed j).holes) (sym y)
+            (get_or-set_same ends t (f + 1) 0 (omega (arith, X.room, t-in, few)) ∙ omega (arith, last_of-append hs (f ∷ []) (omega arith), ap last_of is))
+        tail k (no y) z =
+            get_or-set_other ends t k (f + 1) 0 y ∙ X.tails k (subst (λ c. 0 < length c.holes) (same-cluster k y) z)
             ∙ sym (ap (λ c. last_of c.holes) (same-cluster k y))
 
 -- where there are hole children, the last of them is known and has a slot
-pub hole-tail-fits : {size : ℕ} {s : State} {t₀ ls ks tb es : List ℕ} → Rep size s t₀ ls ks tb es → Holes s → (k : ℕ) → 0 < length (cluster s k).holes
-    → (0 < get_or es (size + 1 + k) 0) × (get_or es (size + 1 + k) 0 ≤ length s.clusters)
-hole-tail-fits {s = s} R H k z =
+pub hole-tail-fits : {size : ℕ} {s : State} {es : List ℕ} → HoleEnds size s es → Holes s → (k : ℕ) → 0 < length (cluster s k).holes
+    → (0 < get_or es k 0) × (get_or es k 0 ≤ length s.clusters)
+hole-tail-fits {s = s} X H k z =
     let l : last_of (cluster s k).holes ≡ suc (last (cluster s k).holes) = last_of-last (cluster s k).holes z in
-    (omega (arith, R.hole-tails k z, l), omega (arith, R.hole-tails k z, l, child-slot H k (last (cluster s k).holes) (last-occurs (cluster s k).holes z)))
+    (omega (arith, X.tails k z, l), omega (arith, X.tails k z, l, child-slot H k (last (cluster s k).holes) (last-occurs (cluster s k).holes z)))

@@ -59,7 +59,7 @@ module _ {image : List ℕ} {size : ℕ} {Gone : ℕ → Type 0} {Keyed : Type 0
 -- ---- the buffers
 
 -- before the first pixel
-pub rep-fresh : (size : ℕ) (t₀ ends : List ℕ) → length ends ≡ 2 * (size + 1) → slot_width ≤ length t₀
+pub rep-fresh : (size : ℕ) (t₀ ends : List ℕ) → length ends ≡ size + 1 → slot_width ≤ length t₀
     → Rep size (fresh size) t₀ (replicate size 0) (replicate size 0) (cleared_slot t₀ 0) ends
 unfolding fresh link after
 rep-fresh size t₀ ends e l = record {
@@ -69,7 +69,6 @@ rep-fresh size t₀ ends e l = record {
       ∙ sym (links-at (fresh size) p b ∙ ap (λ c. after p c.pixels) (fresh-cluster size (label (fresh size) p))));
   tabled = of_plain (fresh size) none (plain-new begun l);
   tails = λ k a z. absurd (omega (arith, ap area (fresh-cluster size k)));
-  hole-tails = λ k a. absurd (omega (arith, ap length (none k)));
   room = e;
 }
   where
@@ -82,7 +81,7 @@ rep-fresh size t₀ ends e l = record {
 -- only next changes
 pub rep-lower : {size : ℕ} {s : State} {t₀ labels links' table ends : List ℕ} (l : ℕ) → Rep size s t₀ labels links' table ends → Rep size (lower_next l s) t₀ labels links' table ends
 unfolding lower_next links link slot
-rep-lower l R = record { labelled = R.labelled; linked = R.linked; tabled = R.tabled; tails = R.tails; hole-tails = R.hole-tails; room = R.room }
+rep-lower l R = record { labelled = R.labelled; linked = R.linked; tabled = R.tabled; tails = R.tails; room = R.room }
 
 module _ {image : List ℕ} {size : ℕ} {Gone : ℕ → Type 0} {Keyed : Type 0} {i : ℕ} {s : State} {t₀ labels links' table ends : List ℕ} (E : Early image size Gone Keyed i s)
     (R : Rep size s t₀ labels links' table ends) (fits : i < size) where
@@ -98,7 +97,6 @@ module _ {image : List ℕ} {size : ℕ} {Gone : ℕ → Type 0} {Keyed : Type 0
         (λ p e d. ap (λ m. after p (cluster s' m).pixels) (tailed.stays p e) ∙ ap (λ c. after p c.pixels) (other (label s p) d)) R.linked (λ l. R.tails k l (E.roots k));
     tabled = tabled nones;
     tails = λ j a z. tail j a (ℕ_discrete j k);
-    hole-tails = λ j a. absurd (omega (arith, ap length (nones j)));
     room = length-set ends k (i + 1) ∙ R.room;
   }
     where
@@ -200,7 +198,6 @@ module _ {image : List ℕ} {size : ℕ} {Gone : ℕ → Type 0} {Keyed : Type 0
           (λ p. moved_other E.basic f t n M (E.flats f) (E.flats t) p (λ z. ap (λ c. occurs p c.pixels) (combine-f f t s n from to))) R.linked (λ l. R.tails t l (E.roots t));
       tabled = of_plain (combine_clusters f t s) nones (combine-table room);
       tails = λ j a z. combine-tails j a;
-      hole-tails = λ j a. absurd (omega (arith, ap length (nones j)));
       room = long (eqb (area (cluster s f)) 0);
     }
       where
@@ -209,7 +206,7 @@ module _ {image : List ℕ} {size : ℕ} {Gone : ℕ → Type 0} {Keyed : Type 0
             three f t (λ j. (cluster (combine_clusters f t s) j).holes ≡ []) (ap (λ c. c.holes) (combine-f f t s n from to) ∙ E.no_holes f) (ap (λ c. c.holes) (combine-t f t s n from to) ∙ E.no_holes t)
             (λ j a b. ap (λ c. c.holes) (M.other j a b) ∙ E.no_holes j)
 
-        long : (b : Bool) → length (if b then ends else set ends t (get_or ends f 0)) ≡ 2 * (size + 1)
+        long : (b : Bool) → length (if b then ends else set ends t (get_or ends f 0)) ≡ size + 1
         long true = R.room
         long false = length-set ends t (get_or ends f 0) ∙ R.room
 

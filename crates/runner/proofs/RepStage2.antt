@@ -10,7 +10,6 @@ use native.Mathlib.Omega.{arith}
 use borrow.Author.Tests.{lt-ltb, le-ltb}
 use lib.Dec.{ltb, lit≤, lit<}
 use lib.ListN.{length, get_or, set, length-set, length-map}
-use lib.Seq.{get_or-set_other}
 use Rattle.rules.specs.Base.{up_to}
 use Rattle.rules.specs.Color.{◌⊕◌}
 use Rattle.rules.specs.State.{State, Cluster, new_cluster, cluster, label, area, relabel, with_cluster, emptied, with_residue, merged_to, deeper, put_out, merge_cluster_into, deepen_cluster_into}
@@ -25,7 +24,7 @@ use Rattle.rules.proofs.Holes.{Holes, root-unnamed, merge-same-holes, merge-same
 use Rattle.color.specs.Colors.{sum_of}
 use Rattle.color.specs.declared.ColorSum.{ColorSum}
 use Rattle.runner.specs.Code.Slots.{sum_at, set_numbers, head_at, head_numbers, saved_head, residue_numbers, saved_residue, head_of}
-use Rattle.runner.specs.Code.Rep.{Table, Rep, last_of, link_after, written, slots_of}
+use Rattle.runner.specs.Code.Rep.{Table, Rep, HoleEnds, last_of, link_after, written, slots_of}
 use Rattle.runner.proofs.Tables.{written_out, table-head, table-residue, table-set, table_same}
 use Rattle.runner.proofs.Rows.{Row, row_in, row_out, row, next_hole, slot_is, slot_row, Fills, table-fills}
 use Rattle.runner.proofs.Joined.{moved-labels, moved-links, moved-tails}
@@ -33,7 +32,11 @@ use Rattle.runner.proofs.Joined.{moved-labels, moved-links, moved-tails}
 -- a cluster that is put out changes no buffer
 pub rep-put : {size : ℕ} {s : State} {t₀ ls ks tb es : List ℕ} (k : ℕ) → Rep size s t₀ ls ks tb es → Rep size (put_out k s) t₀ ls ks tb es
 unfolding put_out links link slot
-rep-put k R = record { labelled = R.labelled; linked = R.linked; tabled = R.tabled; tails = R.tails; hole-tails = R.hole-tails; room = R.room }
+rep-put k R = record { labelled = R.labelled; linked = R.linked; tabled = R.tabled; tails = R.tails; room = R.room }
+
+-- a change that leaves the hole lists leaves their ends
+pub holes-same : {size : ℕ} {s u : State} {es : List ℕ} → ((k : ℕ) → (cluster u k).holes ≡ (cluster s k).holes) → HoleEnds size s es → HoleEnds size u es
+holes-same e X = record { tails = λ k z. X.tails k (subst (λ l. 0 < length l) (e k) z) ∙ sym (ap last_of (e k)); room = X.room }
 
 -- links read only labels and lists
 pub links-same : (s u : State) → s.labels ≡ u.labels → ((k : ℕ) → (cluster s k).pixels ≡ (cluster u k).pixels) → links s ≡ links u
@@ -64,9 +67,12 @@ rep-prepare {s = s} {t₀} R {tb'} U = record {
   linked = R.linked ∙ links-same s (prepare_stage2 s) refl (prepared-pixels s);
   tabled = subst (λ n. Table n (slots_of (prepare_stage2 s)) t₀ tb') (sym (length-map s.clusters (λ c. with_residue c.sum c))) U;
   tails = λ k z y. R.tails k (subst (λ l. 0 < length l) (sym (prepared-pixels s k)) z) (sym (prepared-into s k) ∙ y) ∙ ap last_of (prepared-pixels s k);
-  hole-tails = λ k z. R.hole-tails k (subst (λ l. 0 < length l) (prepared-holes s k) z) ∙ sym (ap last_of (prepared-holes s k));
   room = R.room;
 }
+
+-- without a hole list any ends will do
+pub prepared-no-holes : {size : ℕ} (s : State) {es : List ℕ} → ((k : ℕ) → (cluster s k).holes ≡ []) → length es ≡ size + 1 → HoleEnds size (prepare_stage2 s) es
+prepared-no-holes s none e = record { tails = λ k z. absurd (omega (arith, ap length (prepared-holes s k ∙ none k))); room = e }
 
 -- the numbers of the slots when the residues of those below k are set
 abbrev pub preparing : State → ℕ → ℕ → ℕ → ℕ
@@ -115,6 +121,13 @@ module _ (s : State) {n : ℕ} {t₀ tb : List ℕ} where
 
 -- ---- merges
 
+-- without its hole a deepening merge changes no hole list
+pub deepen-same-holes : {image : List ℕ} {size : ℕ} (a f : ℕ) (s : State) (G : Going image size a f s) (pos : 0 < a) (e : area (cluster s f) ≡ a) (t : ℕ)
+    (N : Near s (label s (get_or (cluster s f).pixels 0 0)) t) → (k : ℕ) → (cluster (deepen_cluster_into false f t s) k).holes ≡ (cluster s k).holes
+deepen-same-holes a f s G pos e t N k = by_cases (ℕ_discrete k t)
+    (λ z. subst (λ m. (cluster (deepen_cluster_into false f t s) m).holes ≡ (cluster s m).holes) (sym z) (deepen-t-holes a f s G pos e t N false))
+    (λ z. deepen-other-holes a f s G pos e t N false k z)
+
 module _ {image : List ℕ} {size : ℕ} (a f : ℕ) (s : State) (G : Going image size a f s) (pos : 0 < a) (e : area (cluster s f) ≡ a) (t : ℕ) (N : Near s (label s (get_or (cluster s f).pixels 0 0)) t)
     {t₀ ls ks tb es : List ℕ} (R : Rep size s t₀ ls ks tb es) (few : length s.clusters ≤ size + 1) (fits : slot_width * length s.clusters ≤ length t₀) where
   d : f ≢ t
@@ -126,10 +139,6 @@ module _ {image : List ℕ} {size : ℕ} (a f : ℕ) (s : State) (G : Going imag
   ts : t < length s.clusters
   ts = t-slot a f s G pos e t N
 
-  -- f ends where t ends, which leaves the hole children
-  same-hole-tails : (k : ℕ) → get_or (set es t (get_or es f 0)) (size + 1 + k) 0 ≡ get_or es (size + 1 + k) 0
-  same-hole-tails k = get_or-set_other es t (size + 1 + k) (get_or es f 0) 0 (λ z. omega (arith, ts))
-
   pub rep-merge : (r : ColorSum) → sum_of r ≡ (cluster s t).residue ⊕ (cluster s f).residue
       → Rep size (merge_cluster_into f t s) t₀ (relabel t (cluster s f).pixels ls) (link_after ks (area (cluster s t)) (get_or es t 0) (first_of (cluster s f).pixels))
       (saved_head (saved_head (saved_residue tb t r) t (head_of (with_cluster (cluster s f) (cluster s t)))) f (head_of new_cluster)) (set es t (get_or es f 0))
@@ -140,7 +149,6 @@ module _ {image : List ℕ} {size : ℕ} (a f : ℕ) (s : State) (G : Going imag
     tabled = subst (λ n. Table n (slots_of u) t₀ tb') (sym M.table)
         (table-fills u (table-head (table-head (table-residue R.tabled t r ts fits) t (head_of to) ts fits) f (head_of new_cluster) fs fits) (λ k l. three f t (Fills σ u) f-fills t-fills o-fills k));
     tails = moved-tails a f s G pos e t N R M (λ z y. omega (arith, ap area from));
-    hole-tails = λ k z. same-hole-tails k ∙ R.hole-tails k (subst (λ l. 0 < length l) (merge-same-holes a f s G pos e t N k) z) ∙ sym (ap last_of (merge-same-holes a f s G pos e t N k));
     room = length-set es t (get_or es f 0) ∙ R.room;
   }
     where
@@ -195,7 +203,6 @@ module _ {image : List ℕ} {size : ℕ} (a f : ℕ) (s : State) (G : Going imag
     tabled = subst (λ n. Table n (slots_of u) t₀ tb') (sym M.table)
         (table-fills u (table-set (table-set (table-head R.tabled t (head_of to) ts fits) f 16 t fs (lit< tt) fits) t 17 ((cluster s t).depth + 1) ts (lit< tt) fits) (λ k l. three f t (Fills σ u) f-fills t-fills o-fills k));
     tails = moved-tails a f s G pos e t N R M (λ z y. N.0 (sym (deepen-into a f s G pos e t N false) ∙ y));
-    hole-tails = λ k z. same-hole-tails k ∙ R.hole-tails k (subst (λ l. 0 < length l) (same k) z) ∙ sym (ap last_of (same k));
     room = length-set es t (get_or es f 0) ∙ R.room;
   }
     where
@@ -217,19 +224,13 @@ module _ {image : List ℕ} {size : ℕ} (a f : ℕ) (s : State) (G : Going imag
       from : cluster (deepen_cluster_into false f t s) f ≡ merged_to t (cluster s f)
       from = deepen-from a f s G pos e t N false
 
-      -- no hole list changes
-      same : (k : ℕ) → (cluster (deepen_cluster_into false f t s) k).holes ≡ (cluster s k).holes
-      same k = by_cases (ℕ_discrete k t)
-          (λ z. subst (λ m. (cluster (deepen_cluster_into false f t s) m).holes ≡ (cluster s m).holes) (sym z) (deepen-t-holes a f s G pos e t N false))
-          (λ z. deepen-other-holes a f s G pos e t N false k z)
-
       next : (k : ℕ) → k ≢ f → next_hole (deepen_cluster_into false f t s) k ≡ next_hole s k
-      next k n = ap (λ m. after k (cluster (deepen_cluster_into false f t s) m).holes) (deepen-other-into a f s G pos e t N false k n) ∙ ap (after k) (same (cluster s k).merged_into)
+      next k n = ap (λ m. after k (cluster (deepen_cluster_into false f t s) m).holes) (deepen-other-into a f s G pos e t N false k n) ∙ ap (after k) (deepen-same-holes a f s G pos e t N (cluster s k).merged_into)
 
       -- f is named nowhere
       f-next : next_hole (deepen_cluster_into false f t s) f ≡ next_hole s f
       f-next =
-          ap (λ m. after f (cluster (deepen_cluster_into false f t s) m).holes) (deepen-into a f s G pos e t N false) ∙ ap (after f) (same t)
+          ap (λ m. after f (cluster (deepen_cluster_into false f t s) m).holes) (deepen-into a f s G pos e t N false) ∙ ap (after f) (deepen-same-holes a f s G pos e t N t)
           ∙ after_none f (cluster s t).holes (root-unnamed H f (root a f s G pos e) t)
           ∙ sym (after_none f (cluster s (cluster s f).merged_into).holes (root-unnamed H f (root a f s G pos e) (cluster s f).merged_into))
 

@@ -68,7 +68,7 @@ module _ (o : RunnerConfig) (w h : ℕ) (image : List ℕ) (bytes : (i : ℕ) �
   ended-ranged = subst (Ranged w h) (drained-stage2 o w h image) (turns-ranged image bytes o w h (2 * (w * h)))
 
   -- both stages have left L, K and B, and the outputs S
-  module _ {B₀ : List ℕ} (O₀ : List ℕ) (fits : slot_width * (w * h + 1) ≤ length B₀) (room : 2 * (w * h) ≤ length O₀) {L K B E Q M S : List ℕ} {slots entries : ℕ} (F : Staged (w * h) (stage2 o w h (stage1 o w h image)) B₀ L K B E Q M S slots entries) where
+  module _ {B₀ : List ℕ} (O₀ : List ℕ) (fits : slot_width * (w * h + 1) ≤ length B₀) (room : 2 * (w * h) ≤ length O₀) {L K B E H Q M S : List ℕ} {slots entries : ℕ} (F : Staged (w * h) (stage2 o w h (stage1 o w h image)) B₀ L K B E H Q M S slots entries) where
     entries-few : entries ≤ 2 * (w * h)
     entries-few = omega (arith, F.entries, outputs-bound o w h image)
 

@@ -32,7 +32,6 @@ rep-is {size} {s} {t₀} a b c d R = record {
   linked = b ∙ R.linked;
   tabled = subst (Table (length s.clusters) (slots_of s) t₀) (sym c) R.tabled;
   tails = λ k x y. ap (λ e. get_or e k 0) d ∙ R.tails k x y;
-  hole-tails = λ k x. ap (λ e. get_or e (size + 1 + k) 0) d ∙ R.hole-tails k x;
   room = ap length d ∙ R.room;
 }
 

@@ -266,7 +266,7 @@ taken-so {w = w} {h = h} {t₀ = t₀} {L' = L'} {K' = K'} {B' = B'} {E' = E'} {
 -- ---- all pixels
 
 -- before the first
-pub held-fresh : (o : RunnerConfig) (w : ℕ) (image : List ℕ) (size : ℕ) {L K B E : List ℕ} → L ≡ replicate size 0 → K ≡ replicate size 0 → length E ≡ 2 * (size + 1)
+pub held-fresh : (o : RunnerConfig) (w : ℕ) (image : List ℕ) (size : ℕ) {L K B E : List ℕ} → L ≡ replicate size 0 → K ≡ replicate size 0 → length E ≡ size + 1
     → (t₀ : List ℕ) → B ≡ cleared_slot t₀ 0 → slot_width * (size + 1) ≤ length t₀ → Holding size (taken o w image size 0) t₀ L K B E 1 1
 unfolding taken fresh
 held-fresh o w image size {E = E} a b d t₀ e l = record { rep = rep-is a b e refl (rep-fresh size t₀ E d (omega arith)); free = refl; slots = refl }

@@ -18,7 +18,7 @@ use Rattle.runner.specs.Code.Given.{Given}
 use Rattle.runner.specs.Code.Rep.{Table, slots_of}
 use Rattle.runner.specs.Code.Queue.{Built, queue_key}
 use Rattle.runner.specs.Code.Stage2.{Prepared, Between, Entered}
-use Rattle.runner.proofs.RepStage2.{rep-prepare}
+use Rattle.runner.proofs.RepStage2.{rep-prepare, prepared-no-holes}
 
 -- the largest pixel count does not change when residues do
 largest-same : (cs : List Cluster) → largest (map (λ c. with_residue c.sum c) cs) ≡ largest cs
@@ -26,7 +26,7 @@ unfolding largest with_residue
 largest-same [] = refl
 largest-same (c ∷ cs) = ap (max (area c)) (largest-same cs)
 
-module _ {o : RunnerConfig} {w h : ℕ} {image : List ℕ} {shift : ℕ} (G : Given o w h image shift) {t₀ L K B E Q M S : List ℕ} {n : ℕ} (N : Entered o w h image t₀ L K B E Q M S n) where
+module _ {o : RunnerConfig} {w h : ℕ} {image : List ℕ} {shift : ℕ} (G : Given o w h image shift) {t₀ L K B E H Q M S : List ℕ} {n : ℕ} (N : Entered o w h image t₀ L K B E H Q M S n) where
   abbrev s : State
   s = stage1 o w h image
 
@@ -58,7 +58,7 @@ module _ {o : RunnerConfig} {w h : ℕ} {image : List ℕ} {shift : ℕ} (G : Gi
       held : Table n (slots_of s) t₀ B
       held = subst (λ x. Table x (slots_of s) t₀ B) (sym N.slots) N.rep.tabled
 
-      pub started : Between o w h image t₀ L K B' E Q₂ M S n₂ (record { m = 0; turns = 0; largest = top })
+      pub started : Between o w h image t₀ L K B' E H Q₂ M S n₂ (record { m = 0; turns = 0; largest = top })
       unfolding turns start prepare_stage2
       started = rw (y, z) (record {
         table_fits = N.table_fits;
@@ -67,6 +67,7 @@ module _ {o : RunnerConfig} {w h : ℕ} {image : List ℕ} {shift : ℕ} (G : Gi
           marks-long = N.marks-long;
           staged-long = N.staged-long;
           rep = rep-prepare N.rep (subst (λ x. Table x (slots_of (prepare_stage2 s)) t₀ B') N.slots (P.state s t₀ N.slots table_fits held));
+          hole-ends = prepared-no-holes s (early o w h image).no_holes N.hole-ends-long;
           slots = N.slots ∙ sym slots;
           tree = rw z at D.tree;
           keyed = record {

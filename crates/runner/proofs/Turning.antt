@@ -21,7 +21,7 @@ use Rattle.runner.proofs.Queues.{first_some, first-none}
 use Rattle.runner.proofs.Carried.{carried-queue}
 use Rattle.runner.proofs.Moment.{At, at, image-of}
 
-module _ {o : RunnerConfig} {w h : ℕ} {image : List ℕ} {shift : ℕ} (G : Given o w h image shift) {t₀ L K B E Q M S : List ℕ} {n : ℕ} {t : Turns} (I : Between o w h image t₀ L K B E Q M S n t) where
+module _ {o : RunnerConfig} {w h : ℕ} {image : List ℕ} {shift : ℕ} (G : Given o w h image shift) {t₀ L K B E H Q M S : List ℕ} {n : ℕ} {t : Turns} (I : Between o w h image t₀ L K B E H Q M S n t) where
   -- ---- which slot is next
 
   pub slots-are : n ≡ length (stage1 o w h image).clusters
@@ -37,8 +37,8 @@ module _ {o : RunnerConfig} {w h : ℕ} {image : List ℕ} {shift : ℕ} (G : Gi
       record { picked = x.0; count = sym x.1 ∙ (turn-ready o w h image t.turns e.slot x.0).picked.key }
 
   -- none is: stage 2 is over
-  pub ends : NextPending Q n None → Staged (w * h) (stage2 o w h (stage1 o w h image)) t₀ L K B E Q M S n t.m
-  ends N = subst (λ u. Staged (w * h) u t₀ L K B E Q M S n t.m) over (record {
+  pub ends : NextPending Q n None → Staged (w * h) (stage2 o w h (stage1 o w h image)) t₀ L K B E H Q M S n t.m
+  ends N = subst (λ u. Staged (w * h) u t₀ L K B E H Q M S n t.m) over (record {
     labelled = I.carried.rep.labelled;
     linked = I.carried.rep.linked;
     tabled = I.carried.rep.tabled;
@@ -69,7 +69,7 @@ module _ {o : RunnerConfig} {w h : ℕ} {image : List ℕ} {shift : ℕ} (G : Gi
     few = omega (arith, I.carried.slots, moment.ranged.slots)
 
     -- slot k is taken off the queue
-    pub taken-off : {Q' : List ℕ} {n' : ℕ} → n' ≡ n → length Q' ≡ length Q → KeySet Q Q' n k 4294967295 → Visiting o w h image t₀ L K B E Q' M S n' t k a t.turns
+    pub taken-off : {Q' : List ℕ} {n' : ℕ} → n' ≡ n → length Q' ≡ length Q → KeySet Q Q' n k 4294967295 → Visiting o w h image t₀ L K B E H Q' M S n' t k a t.turns
     taken-off {Q'} s e N = rw s (record {
       table_fits = I.table_fits;
       chosen = C;
@@ -82,11 +82,11 @@ module _ {o : RunnerConfig} {w h : ℕ} {image : List ℕ} {shift : ℕ} (G : Gi
     next = ap (queue_at o w h image) (add-one t.turns) ∙ moment.ready.turns-to
 
     -- and visited
-    pub turned : {L' K' B' E' Q' M' S' : List ℕ} {n' : ℕ} {r : Turns} → Visited o w h image t₀ L' K' B' E' Q' M' S' n' t r k
-        → Between o w h image t₀ L' K' B' E' Q' M' S' n' (record { m = r.m; turns = r.turns + 1; largest = r.largest })
-    turned {L'} {K'} {B'} {E'} {Q'} {M'} {S'} {n'} {r} D = record {
+    pub turned : {L' K' B' E' H' Q' M' S' : List ℕ} {n' : ℕ} {r : Turns} → Visited o w h image t₀ L' K' B' E' H' Q' M' S' n' t r k
+        → Between o w h image t₀ L' K' B' E' H' Q' M' S' n' (record { m = r.m; turns = r.turns + 1; largest = r.largest })
+    turned {L'} {K'} {B'} {E'} {H'} {Q'} {M'} {S'} {n'} {r} D = record {
       table_fits = I.table_fits;
-      carried = subst (λ i. Carried (w * h) (queue_at o w h image (i + 1)).now (queue_at o w h image (i + 1)).keys t₀ L' K' B' E' Q' M' S' n' r.m (i + 1)) (sym D.same)
-          (subst (λ x. Carried (w * h) x.now x.keys t₀ L' K' B' E' Q' M' S' n' r.m (t.turns + 1)) (sym next) D.carried);
+      carried = subst (λ i. Carried (w * h) (queue_at o w h image (i + 1)).now (queue_at o w h image (i + 1)).keys t₀ L' K' B' E' H' Q' M' S' n' r.m (i + 1)) (sym D.same)
+          (subst (λ x. Carried (w * h) x.now x.keys t₀ L' K' B' E' H' Q' M' S' n' r.m (t.turns + 1)) (sym next) D.carried);
       top = D.top ∙ sym (ap (λ x. largest x.now.clusters) next) ∙ ap (λ i. largest (queue_at o w h image (i + 1)).now.clusters) (sym D.same);
     }

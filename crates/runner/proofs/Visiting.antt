@@ -32,16 +32,16 @@ use Rattle.runner.proofs.Tables.{count_at}
 use Rattle.runner.proofs.RepReads.{rep-labels-length, rep-links-length}
 use Rattle.runner.proofs.Carried.{carried-put, carried-queue, carried-lists, carried-marks, carried_later}
 use Rattle.runner.proofs.Moment.{At, at, image-of, going, some-pixels, diff-fits, slot-fits, list-reads, scannable, nearest-is, deepens-is}
-use Rattle.runner.proofs.Merges.{can-merge, can-deepen, merged-rep, deepened-rep, can-hollow, hollowed-rep, target-slot}
+use Rattle.runner.proofs.Merges.{can-merge, can-deepen, merged-rep, merged-holes, deepened-rep, deepened-holes, can-hollow, hollowed-rep, hollowed-holes, target-slot}
 
 -- ---- the target's key
 
-module _ {size : ℕ} {u : State} {keys t₀ L K B E Q M S : List ℕ} {n m marks : ℕ} (C : Carried size u keys t₀ L K B E Q M S n m marks) (few : n ≤ size + 1) (to : ℕ) (inside : to < n) where
+module _ {size : ℕ} {u : State} {keys t₀ L K B E H Q M S : List ℕ} {n m marks : ℕ} (C : Carried size u keys t₀ L K B E H Q M S n m marks) (few : n ≤ size + 1) (to : ℕ) (inside : to < n) where
   pub can-grow : slot_width * (size + 1) ≤ length t₀ → CanGrow n to B Q
   can-grow fits = record { slot = omega (arith, C.rep.tabled.long); inside = inside; tree = C.tree }
 
   pub carried-grown : 0 < area (cluster u to) → area (cluster u to) < 4294967295 → {t r : Turns} {Q' : List ℕ} → length Q' ≡ length Q → Grown n to t r B Q Q'
-      → Carried size u (set keys to (area (cluster u to))) t₀ L K B E Q' M S n m marks
+      → Carried size u (set keys to (area (cluster u to))) t₀ L K B E H Q' M S n m marks
   carried-grown some low {t} {r} {Q'} wide G =
       carried-queue C Q' wide to (area (cluster u to)) inside few low (subst (KeySet Q Q' n to) count G.keyed)
     where
@@ -79,7 +79,7 @@ pub none-near : (key : ℕ → ℕ) (ns : List ℕ) → (nearest_of key ns).coun
 none-near key [] e = refl
 none-near key (x ∷ xs) e = absurd (omega arith)
 
-module _ {o : RunnerConfig} {w h : ℕ} {image : List ℕ} {shift : ℕ} (I : Given o w h image shift) {t₀ L K B E Q M S : List ℕ} {n : ℕ} {t : Turns} {k a marks : ℕ} (X : Visiting o w h image t₀ L K B E Q M S n t k a marks) where
+module _ {o : RunnerConfig} {w h : ℕ} {image : List ℕ} {shift : ℕ} (I : Given o w h image shift) {t₀ L K B E H Q M S : List ℕ} {n : ℕ} {t : Turns} {k a marks : ℕ} (X : Visiting o w h image t₀ L K B E H Q M S n t k a marks) where
   abbrev q : Queue
   q = queue_at o w h image t.turns
 
@@ -105,22 +105,22 @@ module _ {o : RunnerConfig} {w h : ℕ} {image : List ℕ} {shift : ℕ} (I : Gi
 
   -- a visit that puts the cluster out, or does nothing
   pub put-visited : (b : Bool) → visit_at o w h image t.turns k ≡ (if b then put_out k (queue_at o w h image t.turns).now else (queue_at o w h image t.turns).now) → marks ≤ t.turns + 1
-      → {r : Turns} {S' : List ℕ} → Put b k t r S S' → Visited o w h image t₀ L K B E Q M S' n t r k
+      → {r : Turns} {S' : List ℕ} → Put b k t r S S' → Visited o w h image t₀ L K B E H Q M S' n t r k
   unfolding put_out
   put-visited true e l {r} {S'} P = record {
-    carried = subst (λ u. Carried (w * h) u (rekey k s u q.keys) t₀ L K B E Q M S' n r.m (t.turns + 1)) (sym e)
-        (subst (λ keys. Carried (w * h) (put_out k s) keys t₀ L K B E Q M S' n r.m (t.turns + 1)) (sym (rekey-still k s (put_out k s) q.keys refl))
-        (subst (λ x. Carried (w * h) (put_out k s) (set q.keys k 0) t₀ L K B E Q M S' n x.m (t.turns + 1)) (sym P.turns)
-        (subst (λ x. Carried (w * h) (put_out k s) (set q.keys k 0) t₀ L K B E Q M x n (t.m + 1) (t.turns + 1)) (sym P.staged)
+    carried = subst (λ u. Carried (w * h) u (rekey k s u q.keys) t₀ L K B E H Q M S' n r.m (t.turns + 1)) (sym e)
+        (subst (λ keys. Carried (w * h) (put_out k s) keys t₀ L K B E H Q M S' n r.m (t.turns + 1)) (sym (rekey-still k s (put_out k s) q.keys refl))
+        (subst (λ x. Carried (w * h) (put_out k s) (set q.keys k 0) t₀ L K B E H Q M S' n x.m (t.turns + 1)) (sym P.turns)
+        (subst (λ x. Carried (w * h) (put_out k s) (set q.keys k 0) t₀ L K B E H Q M x n (t.m + 1) (t.turns + 1)) (sym P.staged)
         (carried_later (carried-put X.carried k can-put.few) (t.turns + 1) l))));
     same = ap (λ x. x.turns) P.turns;
     top = ap (λ x. x.largest) P.turns ∙ X.top ∙ sym (ap (λ u. largest u.clusters) e);
   }
   put-visited false e l {r} {S'} P = record {
-    carried = subst (λ u. Carried (w * h) u (rekey k s u q.keys) t₀ L K B E Q M S' n r.m (t.turns + 1)) (sym e)
-        (subst (λ keys. Carried (w * h) s keys t₀ L K B E Q M S' n r.m (t.turns + 1)) (sym (rekey-still k s s q.keys refl))
-        (subst (λ x. Carried (w * h) s (set q.keys k 0) t₀ L K B E Q M S' n x.m (t.turns + 1)) (sym P.turns)
-        (subst (λ x. Carried (w * h) s (set q.keys k 0) t₀ L K B E Q M x n t.m (t.turns + 1)) (sym P.staged)
+    carried = subst (λ u. Carried (w * h) u (rekey k s u q.keys) t₀ L K B E H Q M S' n r.m (t.turns + 1)) (sym e)
+        (subst (λ keys. Carried (w * h) s keys t₀ L K B E H Q M S' n r.m (t.turns + 1)) (sym (rekey-still k s s q.keys refl))
+        (subst (λ x. Carried (w * h) s (set q.keys k 0) t₀ L K B E H Q M S' n x.m (t.turns + 1)) (sym P.turns)
+        (subst (λ x. Carried (w * h) s (set q.keys k 0) t₀ L K B E H Q M x n t.m (t.turns + 1)) (sym P.staged)
         (carried_later X.carried (t.turns + 1) l))));
     same = ap (λ x. x.turns) P.turns;
     top = ap (λ x. x.largest) P.turns ∙ X.top ∙ sym (ap (λ u. largest u.clusters) e);
@@ -152,7 +152,7 @@ module _ {o : RunnerConfig} {w h : ℕ} {image : List ℕ} {shift : ℕ} (I : Gi
   pub visit-scans : marks ≤ t.turns → Scannable L K B M w h k (t.turns + 1)
   visit-scans l = scannable moment X.carried.rep X.table_fits M X.carried.marks-long (t.turns + 1) (λ j. omega (arith, X.carried.marked j))
 
-  pub scanned : (M' : List ℕ) → length M' ≡ length M → ((j : ℕ) → get_or M' j 0 ≤ t.turns + 1) → Visiting o w h image t₀ L K B E Q M' S n t k a (t.turns + 1)
+  pub scanned : (M' : List ℕ) → length M' ≡ length M → ((j : ℕ) → get_or M' j 0 ≤ t.turns + 1) → Visiting o w h image t₀ L K B E H Q M' S n t k a (t.turns + 1)
   scanned M' e low = record {
     table_fits = X.table_fits;
     chosen = X.chosen;
@@ -203,13 +203,13 @@ module _ {o : RunnerConfig} {w h : ℕ} {image : List ℕ} {shift : ℕ} (I : Gi
     moved : (u : State) → visit_at o w h image t.turns k ≡ u → Moved k near.target (queue_at o w h image t.turns).now u
         → rekey k (queue_at o w h image t.turns).now u (queue_at o w h image t.turns).keys ≡ set (set (queue_at o w h image t.turns).keys k 0) near.target (area (cluster u near.target))
         → largest u.clusters ≡ max (largest (queue_at o w h image t.turns).now.clusters) (area (cluster u near.target))
-        → marks ≤ t.turns + 1 → {t₁ r : Turns} → t₁.turns ≡ t.turns → t₁.largest ≡ t.largest → {L' K' B' E' S' Q' : List ℕ} {n' : ℕ}
-        → Carried (w * h) u (set (queue_at o w h image t.turns).keys k 0) t₀ L' K' B' E' Q M S' n t₁.m marks → n' ≡ n → length Q' ≡ length Q → Grown n near.target t₁ r B' Q Q'
-        → Visited o w h image t₀ L' K' B' E' Q' M S' n' t r k
-    moved u e N keys top l {t₁} {r} same most {L'} {K'} {B'} {E'} {S'} {Q'} C slots wide G = rw slots (record {
-      carried = subst (λ v. Carried (w * h) v (rekey k s v q.keys) t₀ L' K' B' E' Q' M S' n r.m (t.turns + 1)) (sym e)
-          (subst (λ y. Carried (w * h) u y t₀ L' K' B' E' Q' M S' n r.m (t.turns + 1)) (sym keys)
-          (subst (λ y. Carried (w * h) u (set (set q.keys k 0) to (area (cluster u to))) t₀ L' K' B' E' Q' M S' n y.m (t.turns + 1)) (sym G.turns)
+        → marks ≤ t.turns + 1 → {t₁ r : Turns} → t₁.turns ≡ t.turns → t₁.largest ≡ t.largest → {L' K' B' E' H' S' Q' : List ℕ} {n' : ℕ}
+        → Carried (w * h) u (set (queue_at o w h image t.turns).keys k 0) t₀ L' K' B' E' H' Q M S' n t₁.m marks → n' ≡ n → length Q' ≡ length Q → Grown n near.target t₁ r B' Q Q'
+        → Visited o w h image t₀ L' K' B' E' H' Q' M S' n' t r k
+    moved u e N keys top l {t₁} {r} same most {L'} {K'} {B'} {E'} {H'} {S'} {Q'} C slots wide G = rw slots (record {
+      carried = subst (λ v. Carried (w * h) v (rekey k s v q.keys) t₀ L' K' B' E' H' Q' M S' n r.m (t.turns + 1)) (sym e)
+          (subst (λ y. Carried (w * h) u y t₀ L' K' B' E' H' Q' M S' n r.m (t.turns + 1)) (sym keys)
+          (subst (λ y. Carried (w * h) u (set (set q.keys k 0) to (area (cluster u to))) t₀ L' K' B' E' H' Q' M S' n y.m (t.turns + 1)) (sym G.turns)
           (carried_later (carried-grown C few to held (omega (arith, count, some-pixels moment)) (omega (arith, count, moment.ranged.areas k, moment.ranged.areas to, I.small)) wide G) (t.turns + 1) l)));
       same = ap (λ y. y.turns) G.turns ∙ same;
       top = ap (λ y. y.largest) G.turns ∙ ap₂ max (most ∙ X.top) (count_at u C.rep.tabled to (omega (arith, held, C.slots))) ∙ sym top ∙ sym (ap (λ v. largest v.clusters) e);
@@ -225,7 +225,7 @@ module _ {o : RunnerConfig} {w h : ℕ} {image : List ℕ} {shift : ℕ} (I : Gi
         count = ap length N.t-pixels ∙ length-append (cluster s to).pixels (cluster s k).pixels
 
     -- what the key asks
-    grow-asks : (u : State) → Moved k near.target (queue_at o w h image t.turns).now u → {keys L' K' B' E' S' : List ℕ} {n m : ℕ} → Carried (w * h) u keys t₀ L' K' B' E' Q M S' n m marks → CanGrow n near.target B' Q
+    grow-asks : (u : State) → Moved k near.target (queue_at o w h image t.turns).now u → {keys L' K' B' E' H' S' : List ℕ} {n m : ℕ} → Carried (w * h) u keys t₀ L' K' B' E' H' Q M S' n m marks → CanGrow n near.target B' Q
     grow-asks u N C = can-grow C (omega (arith, C.slots, N.table, moment.ranged.slots)) to (omega (arith, inside, C.slots, N.table)) X.table_fits
 
     -- ---- a plain merge
@@ -237,16 +237,16 @@ module _ {o : RunnerConfig} {w h : ℕ} {image : List ℕ} {shift : ℕ} (I : Gi
     merge-asks = can-merge moment to aim.near-to X.carried.rep X.table_fits
 
     module _ {L' K' B' E' : List ℕ} (N : Merged k near.target L K B E L' K' B' E') where
-      carried-merged : Carried (w * h) (merge_cluster_into k near.target (queue_at o w h image t.turns).now) (set (queue_at o w h image t.turns).keys k 0) t₀ L' K' B' E' Q M S n t.m marks
+      carried-merged : Carried (w * h) (merge_cluster_into k near.target (queue_at o w h image t.turns).now) (set (queue_at o w h image t.turns).keys k 0) t₀ L' K' B' E' H Q M S n t.m marks
       unfolding merge_cluster_into
-      carried-merged = carried-lists X.carried (merged-rep moment to aim.near-to X.carried.rep X.table_fits N) merges.table refl
+      carried-merged = carried-lists X.carried (merged-rep moment to aim.near-to X.carried.rep X.table_fits N) (merged-holes moment to aim.near-to X.carried.hole-ends) merges.table refl
 
       pub merged-grows : CanGrow n near.target B' Q
       merged-grows = grow-asks (merge_cluster_into k to s) merges carried-merged
 
       pub merged-visited : deepens o w h (queue_at o w h image t.turns).now k near.target ≡ false → marks ≤ t.turns + 1
           → {r : Turns} {Q' : List ℕ} {n' : ℕ} → n' ≡ n → length Q' ≡ length Q → Grown n near.target t r B' Q Q'
-          → Visited o w h image t₀ L' K' B' E' Q' M S n' t r k
+          → Visited o w h image t₀ L' K' B' E' H Q' M S n' t r k
       unfolding merge_cluster_into
       merged-visited e l slots wide G = moved (merge_cluster_into k to s) (goes_to false e) merges (rekey-moved k s (merge_cluster_into k to s) q.keys (plain k to) refl)
           (merge-largest (area (cluster s k)) k s (going moment) (some-pixels moment) refl to aim.near-to) l refl refl carried-merged slots wide G
@@ -261,20 +261,20 @@ module _ {o : RunnerConfig} {w h : ℕ} {image : List ℕ} {shift : ℕ} (I : Gi
 
     module _ {t₁ : Turns} {S' : List ℕ} (P : Put true k t t₁ S S') where
       -- it is put out first
-      out : Carried (w * h) (put_out k (queue_at o w h image t.turns).now) (set (queue_at o w h image t.turns).keys k 0) t₀ L K B E Q M S' n t₁.m marks
+      out : Carried (w * h) (put_out k (queue_at o w h image t.turns).now) (set (queue_at o w h image t.turns).keys k 0) t₀ L K B E H Q M S' n t₁.m marks
       out =
-          subst (λ x. Carried (w * h) (put_out k s) (set q.keys k 0) t₀ L K B E Q M S' n x.m marks) (sym P.turns)
-          (subst (λ x. Carried (w * h) (put_out k s) (set q.keys k 0) t₀ L K B E Q M x n (t.m + 1) marks) (sym P.staged) (carried-put X.carried k can-put.few))
+          subst (λ x. Carried (w * h) (put_out k s) (set q.keys k 0) t₀ L K B E H Q M S' n x.m marks) (sym P.turns)
+          (subst (λ x. Carried (w * h) (put_out k s) (set q.keys k 0) t₀ L K B E H Q M x n (t.m + 1) marks) (sym P.staged) (carried-put X.carried k can-put.few))
 
       module _ {L' K' B' E' : List ℕ} (N : Deepened k near.target L K B E L' K' B' E') where
-        dug : Carried (w * h) (deepen_cluster_into false k near.target (queue_at o w h image t.turns).now) (set (queue_at o w h image t.turns).keys k 0) t₀ L' K' B' E' Q M S' n t₁.m marks
+        dug : Carried (w * h) (deepen_cluster_into false k near.target (queue_at o w h image t.turns).now) (set (queue_at o w h image t.turns).keys k 0) t₀ L' K' B' E' H Q M S' n t₁.m marks
         unfolding put_out deepen_cluster_into
-        dug = carried-lists out (deepened-rep moment to aim.near-to X.carried.rep X.table_fits N) (digs false).table refl
+        dug = carried-lists out (deepened-rep moment to aim.near-to X.carried.rep X.table_fits N) (deepened-holes moment to aim.near-to X.carried.hole-ends) (digs false).table refl
 
         dug-visited : (b : Bool) → leb near.count o.hollow_neighbours ≡ b → deepens o w h (queue_at o w h image t.turns).now k near.target ≡ true → marks ≤ t.turns + 1
-            → {r : Turns} {B₂ E₂ Q' : List ℕ} {n' : ℕ}
-            → Carried (w * h) (deepen_cluster_into b k near.target (queue_at o w h image t.turns).now) (set (queue_at o w h image t.turns).keys k 0) t₀ L' K' B₂ E₂ Q M S' n t₁.m marks
-            → n' ≡ n → length Q' ≡ length Q → Grown n near.target t₁ r B₂ Q Q' → Visited o w h image t₀ L' K' B₂ E₂ Q' M S' n' t r k
+            → {r : Turns} {B₂ H' Q' : List ℕ} {n' : ℕ}
+            → Carried (w * h) (deepen_cluster_into b k near.target (queue_at o w h image t.turns).now) (set (queue_at o w h image t.turns).keys k 0) t₀ L' K' B₂ E' H' Q M S' n t₁.m marks
+            → n' ≡ n → length Q' ≡ length Q → Grown n near.target t₁ r B₂ Q Q' → Visited o w h image t₀ L' K' B₂ E' H' Q' M S' n' t r k
         unfolding deepen_cluster_into
         dug-visited b z e l C slots wide G = moved (deepen_cluster_into b k to s) (goes_to true e ∙ ap (λ x. deepen_cluster_into x k to s) z) (digs b) (rekey-moved k s (deepen_cluster_into b k to s) q.keys (deepened k to) refl)
             (deepen-largest (area (cluster s k)) k s (going moment) (some-pixels moment) refl to aim.near-to b) l (ap (λ x. x.turns) P.turns) (ap (λ x. x.largest) P.turns) C slots wide G
@@ -284,22 +284,22 @@ module _ {o : RunnerConfig} {w h : ℕ} {image : List ℕ} {shift : ℕ} (I : Gi
 
         pub deepened-visited : leb near.count o.hollow_neighbours ≡ false → deepens o w h (queue_at o w h image t.turns).now k near.target ≡ true → marks ≤ t.turns + 1
             → {r : Turns} {Q' : List ℕ} {n' : ℕ} → n' ≡ n → length Q' ≡ length Q → Grown n near.target t₁ r B' Q Q'
-            → Visited o w h image t₀ L' K' B' E' Q' M S' n' t r k
+            → Visited o w h image t₀ L' K' B' E' H Q' M S' n' t r k
         deepened-visited z e l slots wide G = dug-visited false z e l dug slots wide G
 
         -- and becomes a hole child
-        pub hollow-asks : CanHollow (w * h + 1) k near.target B' E'
-        hollow-asks = can-hollow moment to aim.near-to dug.rep X.table_fits
+        pub hollow-asks : CanHollow k near.target B' H
+        hollow-asks = can-hollow moment to aim.near-to dug.rep dug.hole-ends X.table_fits
 
-        module _ {B₂ E₂ : List ℕ} (H : Hollowed (w * h + 1) k near.target B' E' B₂ E₂) where
-          holed : Carried (w * h) (deepen_cluster_into true k near.target (queue_at o w h image t.turns).now) (set (queue_at o w h image t.turns).keys k 0) t₀ L' K' B₂ E₂ Q M S' n t₁.m marks
+        module _ {B₂ H' : List ℕ} (Z : Hollowed k near.target B' H B₂ H') where
+          holed : Carried (w * h) (deepen_cluster_into true k near.target (queue_at o w h image t.turns).now) (set (queue_at o w h image t.turns).keys k 0) t₀ L' K' B₂ E' H' Q M S' n t₁.m marks
           unfolding deepen_cluster_into
-          holed = carried-lists dug (hollowed-rep moment to aim.near-to dug.rep X.table_fits H) ((digs true).table ∙ sym (digs false).table) refl
+          holed = carried-lists dug (hollowed-rep moment to aim.near-to dug.rep dug.hole-ends X.table_fits Z) (hollowed-holes moment to aim.near-to dug.rep dug.hole-ends X.table_fits Z) ((digs true).table ∙ sym (digs false).table) refl
 
           pub hollowed-grows : CanGrow n near.target B₂ Q
           hollowed-grows = grow-asks (deepen_cluster_into true k to s) (digs true) holed
 
           pub hollowed-visited : leb near.count o.hollow_neighbours ≡ true → deepens o w h (queue_at o w h image t.turns).now k near.target ≡ true → marks ≤ t.turns + 1
               → {r : Turns} {Q' : List ℕ} {n' : ℕ} → n' ≡ n → length Q' ≡ length Q → Grown n near.target t₁ r B₂ Q Q'
-              → Visited o w h image t₀ L' K' B₂ E₂ Q' M S' n' t r k
+              → Visited o w h image t₀ L' K' B₂ E' H' Q' M S' n' t r k
           hollowed-visited z e l slots wide G = dug-visited true z e l holed slots wide G

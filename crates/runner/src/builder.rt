@@ -1,7 +1,6 @@
 // Adding a pixel to a cluster and merging clusters, after builder.rs: lists by links, labels, sums and rectangles.
 //
-// `ends` holds for each slot the last pixel of its list, then for each slot the last of its hole children, each plus
-// one.
+// `ends` holds for each slot the last pixel of its list, plus one.
 ghost use Rattle.std.specs.Prelude.{◌≡◌, ◌+◌, ◌-◌, ◌*◌, ◌≤◌, ◌<◌, eqb, length, get_or, set, if◌then◌else◌};
 ghost use Rattle.rules.specs.Layout.{InTable, slot_width, pixel_count_place};
 ghost use Rattle.rules.specs.Code.Bounds.{count_bound};
@@ -54,6 +53,19 @@ fn link_hole(table: &mut [u32], holes: u32, tail: u32, f: u32, t: u32)
         return;
     }
     table[layout::SLOT_WIDTH * ((tail - 1) as usize) + layout::NEXT_HOLE] = f + 1;
+}
+
+// f is appended to the hole children of t, of which `ends` holds for each slot the last, plus one.
+pub(crate) fn append_hole(table: &mut [u32], ends: &mut [u32], f: u32, t: u32)
+    requires { CanHollow f t table.old ends.old }
+    ensures { Hollowed f t table.old ends.old table.new ends.new }
+{
+    let b = layout::SLOT_WIDTH * (t as usize);
+    let holes = table[b + layout::NUM_HOLES];
+    let tail = ends[t as usize];
+    ends[t as usize] = f + 1;
+    table[b + layout::NUM_HOLES] = holes + 1;
+    link_hole(table, holes, tail, f, t);
 }
 
 // The clusters under construction: labels, links and table, and the ends of the lists.
@@ -150,21 +162,5 @@ impl<'a> Builder<'a> {
         self.combine_clusters_clone(f, t);
         self.table[layout::SLOT_WIDTH * (f as usize) + layout::MERGED_INTO] = t;
         self.table[layout::SLOT_WIDTH * (t as usize) + layout::DEPTH] = depth + 1;
-    }
-
-    // f is appended to the hole children of t.
-    pub(crate) fn append_hole(&mut self, room: u32, f: u32, t: u32)
-        requires { CanHollow room f t self.old.table.now self.old.ends.now }
-        ensures loans { SameLists self.old self.new }
-        ensures lists { (self.new.labels.now ≡ self.old.labels.now) × (self.new.links.now ≡ self.old.links.now) }
-        ensures hollowed { Hollowed room f t self.old.table.now self.old.ends.now self.new.table.now self.new.ends.now }
-    {
-        let b = layout::SLOT_WIDTH * (t as usize);
-        let holes = self.table[b + layout::NUM_HOLES];
-        let e = (room + t) as usize;
-        let tail = self.ends[e];
-        self.ends[e] = f + 1;
-        self.table[b + layout::NUM_HOLES] = holes + 1;
-        link_hole(self.table, holes, tail, f, t);
     }
 }

@@ -71,7 +71,8 @@ fn clustered(
 {
     let room = (input.w * input.h) as usize + 1;
     let (queue, rest) = work.split_at_mut(3 * room);
-    let (ends, rest) = rest.split_at_mut(2 * room);
+    let (ends, rest) = rest.split_at_mut(room);
+    let (hole_ends, rest) = rest.split_at_mut(room);
     let (marks, rest) = rest.split_at_mut(room);
     let mut lists = Builder {
         labels,
@@ -84,6 +85,7 @@ fn clustered(
         n: 0,
     };
     let mut parts = Work {
+        hole_ends,
         queue,
         marks,
         staged: &mut rest[0..2 * room],

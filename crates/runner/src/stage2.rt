@@ -13,13 +13,14 @@ use super::builder::Builder;
 use super::cluster::Nearest;
 use super::input::Input;
 use super::queue::{Entry, Queue};
-use super::{cluster, geometry, keying, queue, slot};
+use super::{builder, cluster, geometry, keying, queue, slot};
 use crate::RunnerConfig;
 
-// What stage 2 has beside the lists, for room = w × h + 1 slots: the queue of pending slots (3 × room), the marks of
-// the neighbours (room), and the outputs before any is dropped (2 × room).
+// What stage 2 has beside the lists, for room = w × h + 1 slots: the ends of the hole lists (room), the queue of
+// pending slots (3 × room), the marks of the neighbours (room), and the outputs before any is dropped (2 × room).
 #[derive(Drop)]
 pub(crate) struct Work<'a> {
+    pub(crate) hole_ends: &'a mut [u32],
     pub(crate) queue: Queue<'a>,
     pub(crate) marks: &'a mut [u32],
     pub(crate) staged: &'a mut [u32],
@@ -102,7 +103,7 @@ fn deepen_into_nearest(
     let put = put_out(work.staged, t, k);
     b.deepen_cluster_into(k, to);
     if near.count <= input.o.hollow_neighbours {
-        b.append_hole(input.w * input.h + 1, k, to);
+        builder::append_hole(b.table, work.hole_ends, k, to);
         return grown(b, &mut work.queue, put, to);
     }
     grown(b, &mut work.queue, put, to)

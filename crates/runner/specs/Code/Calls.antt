@@ -5,22 +5,24 @@ use Rattle.rules.specs.Layout.{links, table, slot_width}
 use Rattle.rules.specs.Calls.{over}
 
 -- labels, links and marks are zero, and the rest stays
-pub record Blanked (L K B E Q M S L' K' B' E' Q' M' S' : List ℕ) : Type 0 where
+pub record Blanked (L K B E H Q M S L' K' B' E' H' Q' M' S' : List ℕ) : Type 0 where
   pub labels : L' ≡ replicate (length L) 0
   pub links : K' ≡ replicate (length K) 0
   pub table : B' ≡ B
   pub ends : E' ≡ E
+  pub hole-ends : H' ≡ H
   pub queue : Q' ≡ Q
   pub marks : M' ≡ replicate (length M) 0
   pub staged : S' ≡ S
 
--- what a run asks for: labels and links of exactly one number for each pixel, and for each slot of exactly two ends,
--- three numbers of the queue, one mark and two outputs
-pub record CanRun (size : ℕ) (L K B E Q M S : List ℕ) : Type 0 where
+-- what a run asks for: labels and links of exactly one number for each pixel, and for each slot of exactly one end of
+-- its list and one of its hole list, three numbers of the queue, one mark and two outputs
+pub record CanRun (size : ℕ) (L K B E H Q M S : List ℕ) : Type 0 where
   pub labels : length L ≡ size
   pub links : length K ≡ size
   pub table : slot_width * (size + 1) ≤ length B
-  pub ends : length E ≡ 2 * (size + 1)
+  pub ends : length E ≡ size + 1
+  pub hole-ends : length H ≡ size + 1
   pub queue : length Q ≡ 3 * (size + 1)
   pub marks : length M ≡ size + 1
   pub staged : length S ≡ 2 * (size + 1)

@@ -21,21 +21,23 @@ pub record SameLists (old new : Builder) : Type 0 where
   pub table_long : length new.table.now ≡ length old.table.now
   pub ends_long : length new.ends.now ≡ length old.ends.now
 
--- f of labels, links, table and ends, queue, marks and staged outputs
-abbrev pub of_work : {A : Type 1} → (List ℕ → List ℕ → List ℕ → List ℕ → List ℕ → List ℕ → List ℕ → A)
+-- f of labels, links, table and ends, ends of the hole lists, queue, marks and staged outputs
+abbrev pub of_work : {A : Type 1} → (List ℕ → List ℕ → List ℕ → List ℕ → List ℕ → List ℕ → List ℕ → List ℕ → A)
     → Builder → Work → A
-of_work f b w = of_lists f b w.queue.numbers.now w.marks.now w.staged.now
+of_work f b w = of_lists f b w.hole_ends.now w.queue.numbers.now w.marks.now w.staged.now
 
 -- f of the same, and of the number of slots in the queue
-abbrev pub of_slots : {A : Type 1} → (List ℕ → List ℕ → List ℕ → List ℕ → List ℕ → List ℕ → List ℕ → ℕ → A)
+abbrev pub of_slots : {A : Type 1} → (List ℕ → List ℕ → List ℕ → List ℕ → List ℕ → List ℕ → List ℕ → List ℕ → ℕ → A)
     → Builder → Work → A
 of_slots f b w = of_work f b w w.queue.n
 
--- the same three slices are lent after a call, as long as before
+-- the same four slices are lent after a call, as long as before
 pub record SameWork (old new : Work) : Type 0 where
+  pub hole_ends : new.hole_ends.ghost_name ≡ old.hole_ends.ghost_name
   pub queue : new.queue.numbers.ghost_name ≡ old.queue.numbers.ghost_name
   pub marks : new.marks.ghost_name ≡ old.marks.ghost_name
   pub staged : new.staged.ghost_name ≡ old.staged.ghost_name
+  pub hole_ends_long : length new.hole_ends.now ≡ length old.hole_ends.now
   pub queue_long : length new.queue.numbers.now ≡ length old.queue.numbers.now
   pub marks_long : length new.marks.now ≡ length old.marks.now
   pub staged_long : length new.staged.now ≡ length old.staged.now

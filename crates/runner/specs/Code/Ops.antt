@@ -83,14 +83,14 @@ pub record Deepened (f t : ℕ) (L K B E L' K' B' E' : List ℕ) : Type 0 where
       (slot_width * t + depth_place) (get_or B (slot_width * t + depth_place) 0 + 1)
   pub ends : E' ≡ (if eqb (head_at B f).count 0 then E else set E t (get_or E f 0))
 
--- f can be appended to the hole children of t
-pub record CanHollow (room f t : ℕ) (B E : List ℕ) : Type 0 where
+-- f can be appended to the hole children of t, the last of which H has
+pub record CanHollow (f t : ℕ) (B H : List ℕ) : Type 0 where
   pub slot : slot_width * t + slot_width ≤ length B
-  pub small : (room < count_bound) × (f < count_bound) × (t < count_bound)
-  pub end : room + t < length E
+  pub small : f < count_bound
+  pub end : t < length H
   pub holes : get_or B (slot_width * t + num_holes_place) 0 < count_bound
-  pub child : 0 < get_or B (slot_width * t + num_holes_place) 0 → (0 < get_or E (room + t) 0)
-      × (get_or E (room + t) 0 < count_bound) × (slot_width * (get_or E (room + t) 0 - 1) + slot_width ≤ length B)
+  pub child : 0 < get_or B (slot_width * t + num_holes_place) 0 → (0 < get_or H t 0)
+      × (slot_width * (get_or H t 0 - 1) + slot_width ≤ length B)
 
 -- where a hole list begins or goes on
 abbrev pub hole_link : ℕ → ℕ → ℕ → ℕ
@@ -98,8 +98,8 @@ hole_link holes tail t =
     if eqb holes 0 then slot_width * t + first_hole_place else slot_width * (tail - 1) + next_hole_place
 
 -- and it was: one hole child more, last of the list
-pub record Hollowed (room f t : ℕ) (B E B' E' : List ℕ) : Type 0 where
+pub record Hollowed (f t : ℕ) (B H B' H' : List ℕ) : Type 0 where
   pub table : B'
       ≡ set (set B (slot_width * t + num_holes_place) (get_or B (slot_width * t + num_holes_place) 0 + 1))
-      (hole_link (get_or B (slot_width * t + num_holes_place) 0) (get_or E (room + t) 0) t) (f + 1)
-  pub ends : E' ≡ set E (room + t) (f + 1)
+      (hole_link (get_or B (slot_width * t + num_holes_place) 0) (get_or H t 0) t) (f + 1)
+  pub ends : H' ≡ set H t (f + 1)

@@ -24,16 +24,19 @@ written σ k j vs i f = if eqb i k && leb j f && ltb f (j + length vs) then get_
 abbrev pub slots_of : State → ℕ → ℕ → ℕ
 slots_of s k f = get_or (slot s k) f 0
 
--- The buffers hold state s. ends has for each slot the last pixel of its list and then the last of its hole children,
--- each plus one.
+-- The buffers hold state s. ends has for each slot the last pixel of its list, plus one.
 pub record Rep (size : ℕ) (s : State) (t₀ labels links' table ends : List ℕ) : Type 0 where
   pub labelled : labels ≡ s.labels
   pub linked : links' ≡ links s
   pub tabled : Table (length s.clusters) (slots_of s) t₀ table
   pub tails : (k : ℕ) → 0 < area (cluster s k) → (cluster s k).merged_into ≡ 0 → get_or ends k 0
       ≡ last_of (cluster s k).pixels
-  pub hole-tails : (k : ℕ) → 0 < length (cluster s k).holes → get_or ends (size + 1 + k) 0 ≡ last_of (cluster s k).holes
-  pub room : length ends ≡ 2 * (size + 1)
+  pub room : length ends ≡ size + 1
+
+-- ends has for each slot of state s the last of its hole children, plus one.
+pub record HoleEnds (size : ℕ) (s : State) (ends : List ℕ) : Type 0 where
+  pub tails : (k : ℕ) → 0 < length (cluster s k).holes → get_or ends k 0 ≡ last_of (cluster s k).holes
+  pub room : length ends ≡ size + 1
 
 -- a list of `count` entries whose last is tail - 1 goes on with first - 1; no entry, or nothing to go on with, links
 -- nothing

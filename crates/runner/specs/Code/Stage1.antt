@@ -144,4 +144,4 @@ pub record Blank (size : ℕ) (L K B E : List ℕ) : Type 0 where
   pub labels : L ≡ replicate size 0
   pub links : K ≡ replicate size 0
   pub table : slot_width * (size + 1) ≤ length B
-  pub ends : length E ≡ 2 * (size + 1)
+  pub ends : length E ≡ size + 1

@@ -13,18 +13,19 @@ use Rattle.rules.specs.Code.Bounds.{count_bound}
 use Rattle.runner.specs.declared.stage2.Turns.{Turns}
 use Rattle.runner.specs.declared.cluster.Nearest.{Nearest}
 use Rattle.runner.specs.Code.Slots.{head_at, saved_residue}
-use Rattle.runner.specs.Code.Rep.{Table, Rep, slots_of}
+use Rattle.runner.specs.Code.Rep.{Table, Rep, HoleEnds, slots_of}
 use Rattle.runner.specs.Code.Queue.{Tree, KeySet, Keyed, queue_key}
 use Rattle.runner.specs.Code.Neighbours.{nearest_of}
 use Rattle.runner.specs.Code.Interior.{some_inside}
 
--- Labels L, links K, table B, ends E, queue Q, marks M and staged outputs S hold state s with the pending slots `keys`;
--- n slots, m outputs, and no mark above `turns`.
-pub record Carried (size : ℕ) (s : State) (keys t₀ L K B E Q M S : List ℕ) (n m turns : ℕ) : Type 0 where
+-- Labels L, links K, table B, ends E, ends of the hole lists H, queue Q, marks M and staged outputs S hold state s with
+-- the pending slots `keys`; n slots, m outputs, and no mark above `turns`.
+pub record Carried (size : ℕ) (s : State) (keys t₀ L K B E H Q M S : List ℕ) (n m turns : ℕ) : Type 0 where
   pub queue-long : length Q ≡ 3 * (size + 1)
   pub marks-long : length M ≡ size + 1
   pub staged-long : length S ≡ 2 * (size + 1)
   pub rep : Rep size s t₀ L K B E
+  pub hole-ends : HoleEnds size s H
   pub slots : n ≡ length s.clusters
   pub tree : Tree Q n
   pub keyed : Keyed Q n keys
@@ -110,9 +111,9 @@ visit_at o w h image i k =
     rules.visit o w h (area (cluster (queue_at o w h image i).now k)) k (queue_at o w h image i).now
 
 -- the buffers hold what the rules have before turn i, and t the largest pixel count
-pub record Between (o : RunnerConfig) (w h : ℕ) (image t₀ L K B E Q M S : List ℕ) (n : ℕ) (t : Turns) : Type 0 where
+pub record Between (o : RunnerConfig) (w h : ℕ) (image t₀ L K B E H Q M S : List ℕ) (n : ℕ) (t : Turns) : Type 0 where
   pub table_fits : slot_width * (w * h + 1) ≤ length t₀
-  pub carried : Carried (w * h) (queue_at o w h image t.turns).now (queue_at o w h image t.turns).keys t₀ L K B E Q M S
+  pub carried : Carried (w * h) (queue_at o w h image t.turns).now (queue_at o w h image t.turns).keys t₀ L K B E H Q M S
       n t.m t.turns
   pub top : t.largest ≡ order.largest (queue_at o w h image t.turns).now.clusters
 
@@ -122,12 +123,12 @@ pub record Chosen (o : RunnerConfig) (w h : ℕ) (image : List ℕ) (i k a : ℕ
   pub count : a ≡ area (cluster (queue_at o w h image i).now k)
 
 -- it is being visited, and is no longer pending; no mark is above `marks`
-pub record Visiting (o : RunnerConfig) (w h : ℕ) (image t₀ L K B E Q M S : List ℕ) (n : ℕ) (t : Turns) (k a marks : ℕ)
+pub record Visiting (o : RunnerConfig) (w h : ℕ) (image t₀ L K B E H Q M S : List ℕ) (n : ℕ) (t : Turns) (k a marks : ℕ)
     : Type 0 where
   pub table_fits : slot_width * (w * h + 1) ≤ length t₀
   pub chosen : Chosen o w h image t.turns k a
   pub carried : Carried (w * h) (queue_at o w h image t.turns).now (set (queue_at o w h image t.turns).keys k 0)
-      t₀ L K B E Q M S n t.m marks
+      t₀ L K B E H Q M S n t.m marks
   pub top : t.largest ≡ order.largest (queue_at o w h image t.turns).now.clusters
 
 -- it is not above `hierarchical`, and near is what the rules have of its neighbours, of which there are some
@@ -137,35 +138,36 @@ pub record Aimed (o : RunnerConfig) (w h : ℕ) (image : List ℕ) (i k : ℕ) (
   pub some : 0 < near.count
 
 -- it deepens into the nearest of them
-pub record Deepening (o : RunnerConfig) (w h : ℕ) (image t₀ L K B E Q M S : List ℕ) (n : ℕ) (t : Turns) (k a : ℕ)
+pub record Deepening (o : RunnerConfig) (w h : ℕ) (image t₀ L K B E H Q M S : List ℕ) (n : ℕ) (t : Turns) (k a : ℕ)
     (near : Nearest) : Type 0 where
-  pub visiting : Visiting o w h image t₀ L K B E Q M S n t k a (t.turns + 1)
+  pub visiting : Visiting o w h image t₀ L K B E H Q M S n t k a (t.turns + 1)
   pub aimed : Aimed o w h image t.turns k near
   pub deepens : rules.deepens o w h (queue_at o w h image t.turns).now k near.target ≡ true
 
 -- and it was visited: the buffers hold what the visit made of the state, with the pending slots after it
-pub record Visited (o : RunnerConfig) (w h : ℕ) (image t₀ L K B E Q M S : List ℕ) (n : ℕ) (t r : Turns) (k : ℕ)
+pub record Visited (o : RunnerConfig) (w h : ℕ) (image t₀ L K B E H Q M S : List ℕ) (n : ℕ) (t r : Turns) (k : ℕ)
     : Type 0 where
   pub carried : Carried (w * h) (visit_at o w h image t.turns k)
       (order.rekey k (queue_at o w h image t.turns).now (visit_at o w h image t.turns k)
-      (queue_at o w h image t.turns).keys) t₀ L K B E Q M S n r.m (t.turns + 1)
+      (queue_at o w h image t.turns).keys) t₀ L K B E H Q M S n r.m (t.turns + 1)
   pub same : r.turns ≡ t.turns
   pub top : r.largest ≡ order.largest (visit_at o w h image t.turns k).clusters
 
 -- ---- stage 2
 
 -- what stage 2 starts from: the buffers hold what stage 1 left, in n slots, and no mark
-pub record Entered (o : RunnerConfig) (w h : ℕ) (image t₀ L K B E Q M S : List ℕ) (n : ℕ) : Type 0 where
+pub record Entered (o : RunnerConfig) (w h : ℕ) (image t₀ L K B E H Q M S : List ℕ) (n : ℕ) : Type 0 where
   pub rep : Rep (w * h) (stage1 o w h image) t₀ L K B E
   pub slots : n ≡ length (stage1 o w h image).clusters
   pub table_fits : slot_width * (w * h + 1) ≤ length t₀
+  pub hole-ends-long : length H ≡ w * h + 1
   pub queue-long : length Q ≡ 3 * (w * h + 1)
   pub marks-long : length M ≡ w * h + 1
   pub staged-long : length S ≡ 2 * (w * h + 1)
   pub marks : (j : ℕ) → get_or M j 0 ≡ 0
 
 -- what it leaves: the buffers hold state u of n slots, with its m outputs staged
-pub record Staged (size : ℕ) (u : State) (t₀ L K B E Q M S : List ℕ) (n m : ℕ) : Type 0 where
+pub record Staged (size : ℕ) (u : State) (t₀ L K B E H Q M S : List ℕ) (n m : ℕ) : Type 0 where
   pub labelled : L ≡ u.labels
   pub linked : K ≡ links u
   pub tabled : Table (length u.clusters) (slots_of u) t₀ B

@@ -14,11 +14,11 @@ append_hole-requires c = let d = c.requires.2 in hollow-asks c.args.input.now.gi
 
 pub grown-requires : goal.grown-requires
 grown-requires c = let d = c.requires.2 in
-    hollowed-grows c.args.input.now.given d.visiting d.aimed c.put_out-put.ensures c.deepen_cluster_into.ensures.deepened c.append_hole.ensures.hollowed
+    hollowed-grows c.args.input.now.given d.visiting d.aimed c.put_out-put.ensures c.deepen_cluster_into.ensures.deepened c.append_hole.ensures
 
 pub returns-then-near-input-clause-visited : goal.returns-then-near-input-clause-visited
-returns-then-near-input-clause-visited c t₀ a d = let l = c.append_hole.ensures.lists in let g = c.grown.ensures in rw (l.0, l.1)
-    (hollowed-visited c.args.input.now.given d.visiting d.aimed c.put_out-put.ensures c.deepen_cluster_into.ensures.deepened c.append_hole.ensures.hollowed (le-leb _ _ c.if-near-input.true) d.deepens (omega arith) g.same.slots g.same.numbers_long g.grown)
+returns-then-near-input-clause-visited c t₀ a d = let g = c.grown.ensures in
+    hollowed-visited c.args.input.now.given d.visiting d.aimed c.put_out-put.ensures c.deepen_cluster_into.ensures.deepened c.append_hole.ensures (le-leb _ _ c.if-near-input.true) d.deepens (omega arith) g.same.slots g.same.numbers_long g.grown
 
 pub grown-requires-2 : goal.grown-requires-2
 grown-requires-2 c = let d = c.requires.2 in deepened-grows c.args.input.now.given d.visiting d.aimed c.put_out-put.ensures c.deepen_cluster_into.ensures.deepened
