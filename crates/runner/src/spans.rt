@@ -110,15 +110,6 @@ fn four_far(image: &[u8], a: u32, b: u32, shift: u32, limits: &[u8; 16]) -> u8
     n
 }
 
-// Whether the four labels from i on are k.
-fn four_in_cluster(labels: &[u32], i: u32, k: u32) -> bool
-    requires { i + 4 ≤ length labels.now }
-    ensures { result ≡ true → (j : ℕ) → j < 4 → get_or labels.now (i + j) 0 ≡ k }
-{
-    let p = i as usize;
-    (labels[p] == k) & (labels[p + 1] == k) & (labels[p + 2] == k) & (labels[p + 3] == k)
-}
-
 // The tests of pixels that may extend cluster k: what they read, and the limits of the settings.
 #[derive(Clone, Copy)]
 struct Reach<'a> {
@@ -153,14 +144,23 @@ impl<'a> Reach<'a> {
         false
     }
 
+    // Whether the four labels from i on are the cluster's.
+    fn four_in_cluster(self, i: u32) -> bool
+        requires { i + 4 ≤ self.input.now.w * self.input.now.h }
+        ensures { let s = self.entry in
+            result ≡ true → (j : ℕ) → j < 4 → get_or s.labels.now (i + j) 0 ≡ s.k }
+    {
+        let p = i as usize;
+        self.labels[p..p + 4].iter().all(|l| *l == self.k)
+    }
+
     // Whether none of the four pixels from i on is a key pixel.
     fn four_free(self, i: u32) -> bool
         requires { i + 4 ≤ self.input.now.w * self.input.now.h }
         ensures { let p = self.entry.input.now in
             result ≡ true → (j : ℕ) → j < 4 → is_key (config_of p.o) p.image.now (i + j) ≡ false }
     {
-        let input = self.input;
-        !input.is_key(i) & !input.is_key(i + 1) & !input.is_key(i + 2) & !input.is_key(i + 3)
+        (0..4).all(|j: u32| !self.input.is_key(i + j))
     }
 
     // Whether the four pixels from i on, behind the first column and the first row, extend it.
@@ -171,7 +171,7 @@ impl<'a> Reach<'a> {
             → AllExtend (config_of p.o) p.w p.image.now s.labels.now s.k i 4 }
     {
         let input = self.input;
-        if !four_in_cluster(self.labels, i - input.w, self.k) {
+        if !self.four_in_cluster(i - input.w) {
             return false;
         }
         if four_far(input.image, i, i - input.w, input.shift, self.limits) != 0 {
