@@ -64,6 +64,12 @@ saved-twice t k g h = store-twice t (slot_width * k) 0 (head_numbers g) (head_nu
 pub row-end : {w h i x y : ℕ} → Spot w h i x y → i + (w - x) ≤ w * h
 row-end {w} {h} {y = y} S = omega (arith, S.index, S.column, mul_comm w y, place_in w h (w - 1) y (let a : w - 1 < w = omega (arith, S.column) in a) S.row)
 
+-- a pixel behind the first column and the first row
+pub past-first : {w h i x y : ℕ} → Spot w h i x y → 0 < x → 0 < y → w + 1 ≤ i
+past-first {w} {y = y} S l m = omega (arith, S.index, l, mul_comm w y, le-mul_of_pos_right w m)
+
+pub ruleset row_places = (row-end, past-first)
+
 module _ {o : RunnerConfig} {w h : ℕ} {image : List ℕ} {shift i x y n k : ℕ} {t₀ L K B E : List ℕ} {free count : ℕ} (Q : Extending o w h image shift i x y n k t₀ L K B E free count) where
   abbrev s : State
   s = taken o w image (w * h) i

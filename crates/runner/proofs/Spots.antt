@@ -11,10 +11,11 @@ use native.Mathlib.Decide.{dec_lt}
 use native.Mathlib.Omega.{arith}
 use borrow.Author.Tests.{lt-ltb, le-ltb, le-leb, lt-leb}
 use lib.Dec.{ltb}
-use lib.ListN.{length}
+use lib.ListN.{length, get_or}
 use Rattle.rules.specs.Color.{Color, RunnerConfig, pixel, pixel_at}
 use Rattle.rules.specs.Grid.{up, left, up_left}
-use Rattle.rules.specs.Stage1.{color_at}
+use Rattle.rules.specs.State.{State, label}
+use Rattle.rules.specs.Stage1.{color_at, label_at}
 use Rattle.rules.proofs.Pixels.{pixel-at}
 use Rattle.rules.specs.Code.Bounds.{count_bound}
 use Rattle.color.specs.Colors.{color_of, option_of}
@@ -101,6 +102,23 @@ module _ (w i : ℕ) where
   up_left-some l =
       ap (λ c. if ltb 0 (i % w) then (if c then some (i - w - 1) else none) else none) (le-leb w i l) ∙ ap (λ m. if ltb 0 m then some (i - w - 1) else none) (mod-eq-sub-mod {n = i} {m = w} l)
 
+-- the same where the pixel's column is known
+module _ {w h i x y : ℕ} (S : Spot w h i x y) where
+  pub border-left : x ≡ 0 → left w i ≡ none
+  border-left e = left-none w i (spot-column S ∙ e)
+
+  pub inner-left : 0 < x → left w i ≡ some (i - 1)
+  inner-left l = left-some w i (omega (arith, l, spot-column S))
+
+  -- and the label there
+  pub no-left-label : (s : State) → x ≡ 0 → 0 ≡ label_at s (left w i)
+  unfolding label_at
+  no-left-label s e = ap (label_at s) (sym (border-left e))
+
+  pub left-label : (s : State) {L : List ℕ} → L ≡ s.labels → 0 < x → get_or L (i - 1) 0 ≡ label_at s (left w i)
+  unfolding label_at
+  left-label s e l = ap (λ ls. get_or ls (i - 1) 0) e ∙ ap (label_at s) (sym (inner-left l))
+
 -- ---- and what `pixel_at` answers there
 
 module _ {w h i x y : ℕ} (image : List ℕ) (S : Spot w h i x y) (whole : length image ≡ 4 * (w * h)) where
@@ -128,13 +146,13 @@ module _ {w h i x y : ℕ} (image : List ℕ) (S : Spot w h i x y) (whole : leng
 
   pub no-left : x ≡ 0 → none ≡ color_at image (left w i)
   unfolding color_at
-  no-left e = ap (color_at image) (sym (left-none w i (spot-column S ∙ e)))
+  no-left e = ap (color_at image) (sym (border-left S e))
 
   pub left-pixel : 0 < x → pixel_at image w h (x - 1) y ≡ color_at image (left w i)
   left-pixel l =
       pixel-at image w h (x - 1) y whole (omega (arith, S.column)) S.row
       ∙ ap (λ j. color_at image (some j)) (omega (arith, S.index))
-      ∙ ap (color_at image) (sym (left-some w i (omega (arith, spot-column S))))
+      ∙ ap (color_at image) (sym (inner-left S l))
 
   pub no-up : y ≡ 0 → none ≡ color_at image (up w i)
   unfolding color_at
@@ -160,6 +178,4 @@ pub ruleset left_pixels = (no-left, left-pixel)
 
 pub ruleset up_pixels = (no-up, up-pixel, up_none)
 
-pub ruleset left_places = (left-none, left-some)
-
-pub ruleset up_places = (first-row-in, later-row, up-some, up_none)
+pub ruleset up_places = (spot-row, first-row-in, later-row, up-some, up_none)

@@ -1,5 +1,5 @@
 -- The steps of stage 1 on the buffers: a pixel is placed, two clusters meet, a pixel is taken.
-use Rattle.std.specs.Prelude.{if◌then◌else◌}
+use Rattle.std.specs.Prelude.{if◌then◌else◌, Option, Some, None}
 use mathlib.Core.Path.{◌≡◌, refl, sym, ap, ap₂, ◌∙◌, subst}
 use mathlib.Core.Logic.{◌≢◌}
 use mathlib.Core.Bool.{Bool, true, false, not, ◌&&◌, true≢false, and-false}
@@ -23,14 +23,23 @@ use Rattle.rules.proofs.Whole.{early-at}
 use Rattle.rules.specs.Layout.{slot_width, pixel_count_place}
 use Rattle.rules.specs.Code.Early.{Early}
 use Rattle.runner.specs.declared.stage1.Into.{Into}
-use Rattle.runner.specs.declared.stage1.Into.TheVariants.{Nowhere, Zero, Up, Left, Fresh}
+use Rattle.runner.specs.declared.stage1.Into.TheVariants.{Zero, Up, Left, Fresh}
 use Rattle.runner.specs.Code.Slots.{cleared_slot}
 use Rattle.runner.specs.Code.Rep.{Rep}
 use Rattle.runner.specs.Code.Ops.{CanAdd, Added, CanAppend, Combined}
-use Rattle.runner.specs.Code.Stage1.{Holding, meets, goes_by, goes_into, is_nowhere, Opened, slot_for, table_for, next_for, count_for, Placing, Meeting, Sided, Taking}
+use Rattle.runner.specs.Code.Stage1.{Holding, meets, goes_by, goes_into, Opened, slot_for, table_for, next_for, count_for, Placing, Meeting, Sided, Taking}
 use Rattle.runner.proofs.RepStage1.{rep-fresh, rep-lower, labels-long}
 use Rattle.runner.proofs.Spots.{spot_in}
 use Rattle.runner.proofs.Stage1Laws.{rep-is, at-is, in_table, count_of, can-add, can-begin, rep-added, rep-begun, can-append, rep-combined}
+
+-- whether a pixel goes nowhere, and where it goes if not
+abbrev is_none : Option Into → Bool
+is_none None = true
+is_none (Some to) = false
+
+abbrev or_zero : Option Into → Into
+or_zero None = Zero
+or_zero (Some to) = to
 
 module _ {o : RunnerConfig} {w h : ℕ} {image : List ℕ} {shift i x y l u : ℕ} {s : State} {t₀ L K B E : List ℕ} {n m : ℕ} (P : Placing o w h image shift i x y l u s t₀ L K B E n m) where
   module _ {c : Color} (e : c ≡ pixel image i) where
@@ -69,16 +78,13 @@ module _ {o : RunnerConfig} {w h : ℕ} {image : List ℕ} {shift i x y l u : �
   place_is a b c d e₁ e₂ e₃ e₄ = rw (e₁, e₂, e₃, e₄)
 
   -- a pixel that goes nowhere changes nothing
-  pub gone : is_nowhere (goes_into o w image i) ≡ true → Holding (w * h) (place o w image i l u s) t₀ L K B E n m
-  gone = go (is_key o image i) (is_discard o.keying_action) refl refl (same_at o image (some i) (up_left w i)) (same_at o image (some i) (up w i)) (same_at o image (some i) (left w i))
+  pub gone : goes_into o w image i ≡ None → Holding (w * h) (place o w image i l u s) t₀ L K B E n m
+  gone z = go (is_key o image i) (is_discard o.keying_action) refl refl (same_at o image (some i) (up_left w i)) (same_at o image (some i) (up w i)) (same_at o image (some i) (left w i)) (ap is_none z)
     where
-      go : (a b : Bool) → is_key o image i ≡ a → is_discard o.keying_action ≡ b → (p q r : Bool) → is_nowhere (goes_by a b p q r) ≡ true → Holding (w * h) (place o w image i l u s) t₀ L K B E n m
+      go : (a b : Bool) → is_key o image i ≡ a → is_discard o.keying_action ≡ b → (p q r : Bool) → is_none (goes_by a b p q r) ≡ true → Holding (w * h) (place o w image i l u s) t₀ L K B E n m
       go true true e₁ e₂ p q r z = subst (λ v. Holding (w * h) v t₀ L K B E n m) (place_is true true _ _ e₁ e₂ refl refl) P.holding
       go true false e₁ e₂ p q r z = absurd (true≢false (sym z))
-      go false b e₁ e₂ true true r z = absurd (true≢false (sym z))
-      go false b e₁ e₂ true false true z = absurd (true≢false (sym z))
-      go false b e₁ e₂ true false false z = absurd (true≢false (sym z))
-      go false b e₁ e₂ false q r z = absurd (true≢false (sym z))
+      go false b e₁ e₂ p q r z = absurd (true≢false (sym z))
 
   module _ {c : Color} (e : c ≡ pixel image i) {B'' : List ℕ} {k n' m' : ℕ} {to : Into} where
     -- the slot can take the pixel
@@ -86,18 +92,20 @@ module _ {o : RunnerConfig} {w h : ℕ} {image : List ℕ} {shift i x y l u : �
     can-take O = subst (λ j. CanAdd j i x y c L K B'' E) (sym O.slot) (subst (λ b. CanAdd (slot_for to l u n) i x y c L K b E) (sym O.table) (go to))
       where
         go : (to : Into) → CanAdd (slot_for to l u n) i x y c L K (table_for to n B) E
-        go Nowhere = can-add P e 0 P.early.some
         go Zero = can-add P e 0 P.early.some
         go Up = can-add P e u P.to-up
         go Left = can-add P e l P.to-left
         go Fresh = can-begin P e
 
     -- and then holds it, as the steps say
-    pub takes : {L' K' B' E' : List ℕ} → to ≡ goes_into o w image i → is_nowhere to ≡ false → Opened to l u n m B B'' k n' m' → Added k i x y c L K B'' E L' K' B' E' → Holding (w * h) (place o w image i l u s) t₀ L' K' B' E' n' m'
-    takes {L'} {K'} {B'} {E'} f z O A =
-        go (is_key o image i) (is_discard o.keying_action) (same_at o image (some i) (up_left w i)) (same_at o image (some i) (up w i)) (same_at o image (some i) (left w i)) refl refl refl refl refl (sym (ap is_nowhere f) ∙ z)
-        (O.slot ∙ ap (λ v. slot_for v l u n) f) (O.table ∙ ap (λ v. table_for v n B) f) (O.free ∙ ap (λ v. next_for v n) f) (O.slots ∙ ap (λ v. count_for v n m) f)
+    pub takes : {L' K' B' E' : List ℕ} → goes_into o w image i ≡ Some to → Opened to l u n m B B'' k n' m' → Added k i x y c L K B'' E L' K' B' E' → Holding (w * h) (place o w image i l u s) t₀ L' K' B' E' n' m'
+    takes {L'} {K'} {B'} {E'} f O A =
+        go (is_key o image i) (is_discard o.keying_action) (same_at o image (some i) (up_left w i)) (same_at o image (some i) (up w i)) (same_at o image (some i) (left w i)) refl refl refl refl refl (ap is_none f)
+        (O.slot ∙ ap (λ v. slot_for v l u n) to-is) (O.table ∙ ap (λ v. table_for v n B) to-is) (O.free ∙ ap (λ v. next_for v n) to-is) (O.slots ∙ ap (λ v. count_for v n m) to-is)
       where
+        to-is : to ≡ or_zero (goes_into o w image i)
+        to-is = sym (ap or_zero f)
+
         held : {st : State} {a b : ℕ} → st ≡ place o w image i l u s → n' ≡ a → m' ≡ b → Holding (w * h) st t₀ L' K' B' E' a b → Holding (w * h) (place o w image i l u s) t₀ L' K' B' E' n' m'
         held {st} p q r H = record { rep = subst (λ v. Rep (w * h) v t₀ L' K' B' E') p H.rep; free = q ∙ H.free ∙ ap (λ v. v.next_index) p; slots = r ∙ H.slots ∙ ap (λ v. length v.clusters) p }
 
@@ -105,7 +113,7 @@ module _ {o : RunnerConfig} {w h : ℕ} {image : List ℕ} {shift i x y l u : �
         added {j} {b} p q = subst (λ v. Added v i x y c L K b E L' K' B' E') p (subst (λ v. Added k i x y c L K v E L' K' B' E') q A)
 
         go : (a b p q r : Bool) → is_key o image i ≡ a → is_discard o.keying_action ≡ b → same_at o image (some i) (up_left w i) ≡ p → same_at o image (some i) (up w i) ≡ q → same_at o image (some i) (left w i) ≡ r
-            → is_nowhere (goes_by a b p q r) ≡ false → k ≡ slot_for (goes_by a b p q r) l u n → B'' ≡ table_for (goes_by a b p q r) n B → n' ≡ next_for (goes_by a b p q r) n → m' ≡ count_for (goes_by a b p q r) n m
+            → is_none (goes_by a b p q r) ≡ false → k ≡ slot_for (or_zero (goes_by a b p q r)) l u n → B'' ≡ table_for (or_zero (goes_by a b p q r)) n B → n' ≡ next_for (or_zero (goes_by a b p q r)) n → m' ≡ count_for (or_zero (goes_by a b p q r)) n m
             → Holding (w * h) (place o w image i l u s) t₀ L' K' B' E' n' m'
         go true true p q r e₁ e₂ e₃ e₄ e₅ z s₁ s₂ s₃ s₄ = absurd (true≢false z)
         go true false p q r e₁ e₂ e₃ e₄ e₅ z s₁ s₂ s₃ s₄ = held (place_is true false _ _ e₁ e₂ refl refl) s₃ s₄ (held-add e 0 P.early.some (added s₁ s₂))

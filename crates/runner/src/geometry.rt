@@ -13,7 +13,7 @@ ghost use Rattle.runner.specs.Code.Stage2.{patch_good_at, deepens_at};
 use super::builder::Builder;
 use super::input::Input;
 use super::queue::Entry;
-use super::{keying, slot};
+use super::slot;
 use crate::HIERARCHICAL_MAX;
 
 // The cluster of a slot and what is read of it: the labels, and its list of `area` pixels from the first one, plus one,
@@ -38,8 +38,7 @@ impl<'a> Candidate<'a> {
         ensures { let c = self.entry in let p = c.input.now in
             result ≡ in_list (config_of p.o) p.image.now c.labels.now c.slot q }
     {
-        self.labels[q as usize] == self.slot
-            && !keying::is_discarded(self.input.image, self.input.o, q)
+        self.labels[q as usize] == self.slot && !self.input.is_discarded(q)
     }
 
     // Whether pixel p has its four neighbours in the list.

@@ -7,15 +7,14 @@ ghost use Rattle.rules.specs.Refusals.{limit};
 ghost use Rattle.rules.specs.Code.Bounds.{count_bound};
 ghost use Rattle.color.specs.Colors.{sum_of};
 ghost use Rattle.runner.specs.Types.{config_of};
-ghost use Rattle.runner.specs.Code.Given.{Spot};
 ghost use Rattle.runner.specs.Code.Spans.{linked_from, CanAddSpan, AddedSpan, FoundSpan, LimitsOf, ManyNear};
 ghost use Rattle.runner.specs.Code.Lists.{of_lists, SameLists};
 
 use super::bound::BoundingRect;
 use super::builder::Builder;
-use super::input::{Input, Pixel};
+use super::input::{Here, Input, Pixel};
 use super::slot::Head;
-use super::{builder, keying, slot, stage1};
+use super::{builder, slot};
 use crate::RunnerConfig;
 use color::{Color, ColorSum};
 
@@ -111,27 +110,6 @@ fn four_far(image: &[u8], a: u32, b: u32, shift: u32, limits: &[u8; 16]) -> u8
     n
 }
 
-// Whether the four labels from i on are k.
-fn four_in_cluster(labels: &[u32], i: u32, k: u32) -> bool
-    requires { i + 4 ≤ length labels.now }
-    ensures { result ≡ true → (j : ℕ) → j < 4 → get_or labels.now (i + j) 0 ≡ k }
-{
-    let p = i as usize;
-    (labels[p] == k) & (labels[p + 1] == k) & (labels[p + 2] == k) & (labels[p + 3] == k)
-}
-
-// Whether none of the four pixels from i on is a key pixel.
-fn four_free(image: &[u8], o: RunnerConfig, i: u32) -> bool
-    requires { (4 * i + 16 ≤ length image.now) × (i < count_bound) }
-    ensures { result ≡ true → (j : ℕ) → j < 4
-        → is_key (config_of o) image.now (i + j) ≡ false }
-{
-    !keying::is_key(image, o, i)
-        & !keying::is_key(image, o, i + 1)
-        & !keying::is_key(image, o, i + 2)
-        & !keying::is_key(image, o, i + 3)
-}
-
 // The tests of pixels that may extend cluster k: what they read, and the limits of the settings.
 #[derive(Clone, Copy)]
 struct Reach<'a> {
@@ -152,19 +130,37 @@ impl<'a> Reach<'a> {
             result ≡ true → Extends (config_of p.o) p.w p.image.now s.labels.now s.k i }
     {
         let input = self.input;
-        let image = input.image;
         if self.labels[(i - input.w) as usize] != self.k {
             return false;
         }
-        let c = Some(keying::color_at(image, i));
-        let up = Some(keying::color_at(image, i - input.w));
-        if stage1::is_same(input, c, up) {
-            let up_left = Some(keying::color_at(image, i - input.w - 1));
-            if stage1::is_same(input, c, up_left) {
-                return !keying::is_key(image, input.o, i);
+        let c = Some(input.color_at(i));
+        let up = Some(input.color_at(i - input.w));
+        if input.is_same(c, up) {
+            let up_left = Some(input.color_at(i - input.w - 1));
+            if input.is_same(c, up_left) {
+                return !input.is_key(i);
             }
         }
         false
+    }
+
+    // Whether the four labels from i on are the cluster's.
+    fn four_in_cluster(self, i: u32) -> bool
+        requires { i + 4 ≤ self.input.now.w * self.input.now.h }
+        ensures { let s = self.entry in
+            result ≡ true → (j : ℕ) → j < 4 → get_or s.labels.now (i + j) 0 ≡ s.k }
+    {
+        let p = i as usize;
+        self.labels[p..p + 4].iter().all(|l| *l == self.k)
+    }
+
+    // Whether none of the four pixels from i on is a key pixel.
+    fn four_free(self, i: u32) -> bool
+        requires { i + 4 ≤ self.input.now.w * self.input.now.h }
+        ensures { let p = self.entry.input.now in
+            result ≡ true → (j : ℕ) → j < 4 → is_key (config_of p.o) p.image.now (i + j) ≡ false }
+    {
+        (0..4).all(|j: u32| !self.input.is_key(i + j))
     }
 
     // Whether the four pixels from i on, behind the first column and the first row, extend it.
@@ -175,13 +171,13 @@ impl<'a> Reach<'a> {
             → AllExtend (config_of p.o) p.w p.image.now s.labels.now s.k i 4 }
     {
         let input = self.input;
-        if !four_in_cluster(self.labels, i - input.w, self.k) {
+        if !self.four_in_cluster(i - input.w) {
             return false;
         }
         if four_far(input.image, i, i - input.w, input.shift, self.limits) != 0 {
             return false;
         }
-        four_free(input.image, input.o, i)
+        self.four_free(i)
     }
 
     // How many pixels from i on, of `room`, extend it, as far as they do so by fours.
@@ -202,12 +198,14 @@ impl<'a> Reach<'a> {
 }
 
 // How many pixels from a pixel on extend the cluster of the pixel to its left.
-pub(crate) fn span_length(input: &Input, b: &Builder, limits: &[u8; 16], at: Pixel) -> u32
-    requires spot { Spot input.now.w input.now.h at.i at.x at.y }
-    requires labelled { input.now.w * input.now.h ≤ length b.now.labels.now }
-    requires limits_of { LimitsOf (config_of input.now.o) limits.now }
-    ensures { FoundSpan (config_of input.now.o) input.now.w input.now.image.now b.now.labels.now at.i at.x at.y result }
+#[tactic(auto, using(crate::proofs::SpanLaws::row_places))]
+pub(crate) fn span_length(here: Here, b: &Builder, limits: &[u8; 16]) -> u32
+    requires labelled { here.input.now.w * here.input.now.h ≤ length b.now.labels.now }
+    requires limits_of { LimitsOf (config_of here.input.now.o) limits.now }
+    ensures { let q = here.entry in let p = q.input.now in
+        FoundSpan (config_of p.o) p.w p.image.now b.now.labels.now q.at.i q.at.x q.at.y result }
 {
+    let Here { input, at } = here;
     if at.x == 0 || at.y == 0 {
         return 0;
     }

@@ -15,22 +15,23 @@ ghost use Rattle.runner.specs.Code.Spans.{LimitsOf};
 ghost use Rattle.runner.specs.Code.Stage1.{SeenAt, Holding, meets, joined, goes_into};
 ghost use Rattle.runner.specs.Code.Stage1.{Opened};
 ghost use Rattle.runner.specs.Code.Stage1.{Placing, Meeting, Sided, Taking, Blank};
-ghost use Rattle.runner.specs.Code.Lists.{of_lists, of_input, SameLists};
-ghost use Rattle.runner.specs.Code.Given.{Spot};
+ghost use Rattle.runner.specs.Code.Lists.{of_lists, of_here, SameLists};
 
 use super::builder::Builder;
-use super::input::{Input, Pixel};
-use super::{keying, slot, spans};
+use super::input::{Here, Input, Pixel};
+use super::{slot, spans};
 use color::Color;
 
 // What a pixel is compared with: its own colour, and the pixels to the left of it, above it, and to the left of that
 // one; none off the image. Each is read once.
 #[derive(Clone, Copy)]
-struct Seen {
+struct Seen<'a> {
+    here: Here<'a>,
     own: Color,
     left: Option<Color>,
     up: Option<Color>,
     up_left: Option<Color>,
+    ghost seen: { SeenAt here.input.now.w here.input.now.image.now here.at.i own left up up_left },
 }
 
 // The next free number, and the number of slots.
@@ -48,10 +49,9 @@ struct Sides {
     slots: Slots,
 }
 
-// Where a pixel goes: nowhere, or into cluster 0, up's, left's, or a fresh one.
-#[derive(Clone, Copy, PartialEq, Eq)]
+// Where a pixel goes: into cluster 0, up's, left's, or a fresh one.
+#[derive(Clone, Copy)]
 enum Into {
-    Nowhere,
     Zero,
     Up,
     Left,
@@ -65,121 +65,75 @@ struct Target {
     slots: Slots,
 }
 
-// The pixel to the left; none at the border.
-#[tactic(auto, using(crate::proofs::Spots::left_pixels))]
-fn left_of(input: &Input, at: Pixel) -> Option<Color>
-    requires { Spot input.now.w input.now.h at.i at.x at.y }
-    ensures { option_of result ≡ rules.color_at input.now.image.now (grid.left input.now.w at.i) }
-{
-    if at.x == 0 {
-        return None;
-    }
-    color::pixel_at(input.image, input.w, input.h, at.x - 1, at.y)
-}
-
-// The pixel above.
-#[tactic(auto, unfolding(rules::specs::Stage1::color_at), using(crate::proofs::Spots::up_pixels))]
-fn up_of(input: &Input, at: Pixel) -> Option<Color>
-    requires { Spot input.now.w input.now.h at.i at.x at.y }
-    ensures { option_of result ≡ rules.color_at input.now.image.now (grid.up input.now.w at.i) }
-{
-    if at.y == 0 {
-        return None;
-    }
-    color::pixel_at(input.image, input.w, input.h, at.x, at.y - 1)
-}
-
-// The pixel to the left of the one above.
-fn up_left_of(input: &Input, at: Pixel) -> Option<Color>
-    requires { Spot input.now.w input.now.h at.i at.x at.y }
-    ensures { option_of result ≡ rules.color_at input.now.image.now (grid.up_left input.now.w at.i) }
-{
-    if at.y == 0 {
-        return None;
-    }
-    left_of(
-        input,
-        Pixel {
-            i: at.i - input.w,
-            x: at.x,
-            y: at.y - 1,
-        },
-    )
-}
-
-// What is seen from a pixel. It is on the image, so its own colour is never none.
-#[tactic(auto, using(crate::proofs::Spots::own_pixels))]
-fn seen_from(input: &Input, at: Pixel) -> Seen
-    requires { Spot input.now.w input.now.h at.i at.x at.y }
-    ensures { SeenAt input.now.w input.now.image.now at.i result }
-{
-    let own = color::pixel_at(input.image, input.w, input.h, at.x, at.y).unwrap();
-    Seen {
-        own,
-        left: left_of(input, at),
-        up: up_of(input, at),
-        up_left: up_left_of(input, at),
-    }
-}
-
-// Whether two pixels are like under the settings.
-#[tactic(auto, unfolding(rules::specs::Stage1::same_at))]
-pub(crate) fn is_same(input: &Input, a: Option<Color>, b: Option<Color>) -> bool
-    ensures { (p q : Option ℕ) → option_of a ≡ rules.color_at input.now.image.now p
-        → option_of b ≡ rules.color_at input.now.image.now q
-        → result ≡ rules.same_at (config_of input.now.o) input.now.image.now p q }
-{
-    color::is_same(a, b, input.shift, input.o.is_same_color_b)
-}
-
-// Step 1, the condition, with l and u for the labels of left and up.
-#[tactic(auto, using(crate::proofs::Spots::color_there))]
-fn left_meets_up(input: &Input, l: u32, u: u32, p: Seen) -> bool
-    ensures { (i : ℕ) → SeenAt input.now.w input.now.image.now i p
-        → result ≡ meets (config_of input.now.o) input.now.w input.now.image.now i l u }
-{
-    if l == u {
-        return false;
-    }
-    let c = Some(p.own);
-    if is_same(input, p.left, p.up) {
-        if is_same(input, c, p.left) {
-            return is_same(input, c, p.up);
+impl<'a> Seen<'a> {
+    // What is seen from a pixel. It is on the image, so its own colour is never none.
+    #[tactic(auto, using(crate::proofs::Spots::own_pixels))]
+    fn of(here: Here<'a>) -> Seen<'a>
+        ensures { result.here ≡ here.entry }
+    {
+        let Here { input, at } = here;
+        let own = color::pixel_at(input.image, input.w, input.h, at.x, at.y).unwrap();
+        Seen {
+            here,
+            own,
+            left: here.left(),
+            up: here.up(),
+            up_left: here.up_left(),
         }
     }
-    false
-}
 
-// Steps 3 to 5: which cluster the pixel joins.
-#[tactic(auto, using(crate::proofs::Spots::color_there))]
-fn joins(input: &Input, p: Seen) -> Into
-    ensures { (i : ℕ) → SeenAt input.now.w input.now.image.now i p
-        → result ≡ joined (config_of input.now.o) input.now.w input.now.image.now i }
-{
-    let c = Some(p.own);
-    if is_same(input, c, p.up_left) {
-        if is_same(input, c, p.up) {
-            return Into::Up;
+    // Step 1, the condition, with l and u for the labels of left and up.
+    #[tactic(auto, using(crate::proofs::Spots::color_there))]
+    fn left_meets_up(self, l: u32, u: u32) -> bool
+        ensures { let s = self.entry.here in let p = s.input.now in
+            result ≡ meets (config_of p.o) p.w p.image.now s.at.i l u }
+    {
+        if l == u {
+            return false;
         }
-        if is_same(input, c, p.left) {
-            return Into::Left;
+        let input = self.here.input;
+        let c = Some(self.own);
+        if input.is_same(self.left, self.up) {
+            if input.is_same(c, self.left) {
+                return input.is_same(c, self.up);
+            }
         }
+        false
     }
-    Into::Fresh
-}
 
-// Steps 2 to 5: where the pixel goes.
-fn goes_into(input: &Input, p: Seen) -> Into
-    ensures { (i : ℕ) → SeenAt input.now.w input.now.image.now i p
-        → result ≡ goes_into (config_of input.now.o) input.now.w input.now.image.now i }
-{
-    if keying::is_key_color(input.o, p.own) {
-        if keying::is_discard(input.o) {
-            return Into::Nowhere;
+    // Steps 3 to 5: which cluster the pixel joins.
+    #[tactic(auto, using(crate::proofs::Spots::color_there))]
+    fn joins(self) -> Into
+        ensures { let s = self.entry.here in let p = s.input.now in
+            result ≡ joined (config_of p.o) p.w p.image.now s.at.i }
+    {
+        let input = self.here.input;
+        let c = Some(self.own);
+        if input.is_same(c, self.up_left) {
+            if input.is_same(c, self.up) {
+                return Into::Up;
+            }
+            if input.is_same(c, self.left) {
+                return Into::Left;
+            }
         }
-        return Into::Zero;
+        Into::Fresh
     }
-    joins(input, p)
+
+    // Steps 2 to 5: where the pixel goes; nowhere where it is discarded.
+    fn goes_into(self) -> Option<Into>
+        ensures { let s = self.entry.here in let p = s.input.now in
+            result ≡ goes_into (config_of p.o) p.w p.image.now s.at.i }
+    {
+        let o = self.here.input.o;
+        if o.is_key(self.own) {
+            if o.is_discard() {
+                return None;
+            }
+            return Some(Into::Zero);
+        }
+        Some(self.joins())
+    }
 }
 
 // Slot next is taken: next rises by one, and so does the number of slots where the slot is new.
@@ -209,7 +163,7 @@ fn slot_for(table: &mut [u32], to: Into, v: Sides) -> Target
 {
     let slots = v.slots;
     match to {
-        Into::Nowhere | Into::Zero => Target { slot: 0, slots },
+        Into::Zero => Target { slot: 0, slots },
         Into::Up => Target { slot: v.up, slots },
         Into::Left => Target {
             slot: v.left,
@@ -226,22 +180,21 @@ fn slot_for(table: &mut [u32], to: Into, v: Sides) -> Target
 }
 
 // Steps 2 to 5.
-fn place(b: &mut Builder, input: &Input, p: Seen, v: Sides, at: Pixel) -> Slots
-    requires { (st : State) × (t₀ : List ℕ) × SeenAt input.now.w input.now.image.now at.i p
-        × of_lists (of_input Placing input.now input.now.shift at.i at.x at.y
-        v.left v.up st t₀) b.old v.slots.next_index v.slots.count }
+fn place(b: &mut Builder, p: Seen, v: Sides) -> Slots
+    requires { (st : State) × (t₀ : List ℕ)
+        × of_lists (of_here Placing p.here v.left v.up st t₀) b.old v.slots.next_index v.slots.count }
     ensures loans { SameLists b.old b.new }
-    ensures holding { let e = input.now in (st : State) (t₀ : List ℕ) → SeenAt e.w e.image.now at.i p
-        → of_lists (of_input Placing e e.shift at.i at.x at.y v.left v.up st t₀)
-        b.old v.slots.next_index v.slots.count
-        → of_lists (Holding (e.w * e.h) (rules.place (config_of e.o) e.w e.image.now at.i v.left v.up st) t₀)
+    ensures holding { let q = p.entry.here in let e = q.input.now in (st : State) (t₀ : List ℕ)
+        → of_lists (of_here Placing q v.left v.up st t₀) b.old v.slots.next_index v.slots.count
+        → of_lists (Holding (e.w * e.h)
+        (rules.place (config_of e.o) e.w e.image.now q.at.i v.left v.up st) t₀)
         b.new result.next_index result.count }
 {
-    let to = goes_into(input, p);
-    if to == Into::Nowhere {
+    let Some(to) = p.goes_into() else {
         return v.slots;
-    }
+    };
     let t = slot_for(b.table, to, v);
+    let at = p.here.at;
     b.add(t.slot, at.i, at.x, at.y, p.own);
     t.slots
 }
@@ -295,23 +248,24 @@ fn combine_sides(b: &mut Builder, l: u32, u: u32, s: Slots) -> Sides
 
 // The label of the pixel above and of the one to the left, 0 off the image.
 #[tactic(auto, unfolding(rules::specs::Stage1::label_at), using(crate::proofs::Spots::up_places))]
-fn up_label(b: &Builder, w: u32, at: Pixel) -> u32
-    requires { (0 < w) × (at.y ≡ at.i / w) × (at.i < length b.now.labels.now) }
-    ensures { (st : State) → b.now.labels.now ≡ st.labels → result ≡ rules.label_at st (grid.up w at.i) }
+fn up_label(b: &Builder, here: Here) -> u32
+    requires { here.at.i < length b.now.labels.now }
+    ensures { let q = here.entry in (st : State) → b.now.labels.now ≡ st.labels
+        → result ≡ rules.label_at st (grid.up q.input.now.w q.at.i) }
 {
+    let Here { input, at } = here;
     if at.y == 0 {
         return 0;
     }
-    b.labels[(at.i - w) as usize]
+    b.labels[(at.i - input.w) as usize]
 }
 
-#[tactic(auto, unfolding(rules::specs::Stage1::label_at), using(crate::proofs::Spots::left_places))]
-fn left_label(b: &Builder, at: Pixel) -> u32
-    requires i_in_bounds { at.i < length b.now.labels.now }
-    requires x_le_i { at.x ≤ at.i }
-    ensures { (st : State) (w : ℕ) → b.now.labels.now ≡ st.labels → at.x ≡ at.i % w → result
-        ≡ rules.label_at st (grid.left w at.i) }
+fn left_label(b: &Builder, here: Here) -> u32
+    requires { here.at.i < length b.now.labels.now }
+    ensures { let q = here.entry in (st : State) → b.now.labels.now ≡ st.labels
+        → result ≡ rules.label_at st (grid.left q.input.now.w q.at.i) }
 {
+    let Here { at, .. } = here;
     if at.x == 0 {
         return 0;
     }
@@ -319,20 +273,18 @@ fn left_label(b: &Builder, at: Pixel) -> u32
 }
 
 // Step 1: the labels of left and up, whose clusters are combined where they meet.
-fn meet(b: &mut Builder, input: &Input, p: Seen, s: Slots, at: Pixel) -> Sides
-    requires { (t₀ : List ℕ) × SeenAt input.now.w input.now.image.now at.i p
-        × of_lists (of_input Taking input.now input.now.shift at.i at.x at.y t₀)
-        b.old s.next_index s.count }
+fn meet(b: &mut Builder, p: Seen, s: Slots) -> Sides
+    requires { (t₀ : List ℕ) × of_lists (of_here Taking p.here t₀) b.old s.next_index s.count }
     ensures loans { SameLists b.old b.new }
-    ensures sided { let e = input.now in (t₀ : List ℕ) → SeenAt e.w e.image.now at.i p
-        → of_lists (of_input Taking e e.shift at.i at.x at.y t₀) b.old s.next_index s.count
-        → of_lists (of_input Sided e e.shift at.i at.x at.y
-        (rules.taken (config_of e.o) e.w e.image.now (e.w * e.h) (suc at.i)) t₀)
+    ensures sided { let q = p.entry.here in let e = q.input.now in (t₀ : List ℕ)
+        → of_lists (of_here Taking q t₀) b.old s.next_index s.count
+        → of_lists (of_here Sided q
+        (rules.taken (config_of e.o) e.w e.image.now (e.w * e.h) (suc q.at.i)) t₀)
         b.new result.left result.up result.slots.next_index result.slots.count }
 {
-    let u = up_label(b, input.w, at);
-    let l = left_label(b, at);
-    if left_meets_up(input, l, u, p) {
+    let u = up_label(b, p.here);
+    let l = left_label(b, p.here);
+    if p.left_meets_up(l, u) {
         return combine_sides(b, l, u, s);
     }
     Sides {
@@ -343,19 +295,18 @@ fn meet(b: &mut Builder, input: &Input, p: Seen, s: Slots, at: Pixel) -> Sides
 }
 
 // A pixel is taken.
-fn take_pixel(b: &mut Builder, input: &Input, s: Slots, at: Pixel) -> Slots
-    requires { (t₀ : List ℕ)
-        × of_lists (of_input Taking input.now input.now.shift at.i at.x at.y t₀)
-        b.old s.next_index s.count }
+fn take_pixel(b: &mut Builder, here: Here, s: Slots) -> Slots
+    requires { (t₀ : List ℕ) × of_lists (of_here Taking here t₀) b.old s.next_index s.count }
     ensures loans { SameLists b.old b.new }
-    ensures holding { let e = input.now in (t₀ : List ℕ)
-        → of_lists (of_input Taking e e.shift at.i at.x at.y t₀) b.old s.next_index s.count
-        → of_lists (Holding (e.w * e.h) (rules.taken (config_of e.o) e.w e.image.now (e.w * e.h) (suc at.i)) t₀)
+    ensures holding { let q = here.entry in let e = q.input.now in (t₀ : List ℕ)
+        → of_lists (of_here Taking q t₀) b.old s.next_index s.count
+        → of_lists (Holding (e.w * e.h)
+        (rules.taken (config_of e.o) e.w e.image.now (e.w * e.h) (suc q.at.i)) t₀)
         b.new result.next_index result.count }
 {
-    let p = seen_from(input, at);
-    let v = meet(b, input, p, s, at);
-    place(b, input, p, v, at)
+    let p = Seen::of(here);
+    let v = meet(b, p, s);
+    place(b, p, v)
 }
 
 // Next and count after a step, and how many pixels it took.
@@ -366,51 +317,29 @@ struct Step {
 }
 
 // A pixel is taken, and with it the rest of its span.
-fn take_pixels(b: &mut Builder, input: &Input, limits: &[u8; 16], s: Slots, at: Pixel) -> Step
-    requires limits_of { LimitsOf (config_of input.now.o) limits.now }
-    requires taking { (t₀ : List ℕ)
-        × of_lists (of_input Taking input.now input.now.shift at.i at.x at.y t₀)
-        b.old s.next_index s.count }
+fn take_pixels(b: &mut Builder, here: Here, limits: &[u8; 16], s: Slots) -> Step
+    requires limits_of { LimitsOf (config_of here.input.now.o) limits.now }
+    requires taking { (t₀ : List ℕ) × of_lists (of_here Taking here t₀) b.old s.next_index s.count }
     ensures loans { SameLists b.old b.new }
-    ensures pixels { (0 < result.pixels) × (at.x + result.pixels ≤ input.now.w) }
-    ensures holding { let e = input.now in (t₀ : List ℕ)
-        → of_lists (of_input Taking e e.shift at.i at.x at.y t₀) b.old s.next_index s.count
+    ensures pixels { let q = here.entry in (0 < result.pixels) × (q.at.x + result.pixels ≤ q.input.now.w) }
+    ensures holding { let q = here.entry in let e = q.input.now in (t₀ : List ℕ)
+        → of_lists (of_here Taking q t₀) b.old s.next_index s.count
         → of_lists (Holding (e.w * e.h)
-        (rules.taken (config_of e.o) e.w e.image.now (e.w * e.h) (at.i + result.pixels)) t₀)
+        (rules.taken (config_of e.o) e.w e.image.now (e.w * e.h) (q.at.i + result.pixels)) t₀)
         b.new result.slots.next_index result.slots.count }
 {
-    let n = spans::span_length(input, b, limits, at);
+    let n = spans::span_length(here, b, limits);
     if n == 0 {
         return Step {
-            slots: take_pixel(b, input, s, at),
+            slots: take_pixel(b, here, s),
             pixels: 1,
         };
     }
-    let k = b.labels[(at.i - 1) as usize];
-    spans::add_span(b, input.image, k, at, n);
+    let k = b.labels[(here.at.i - 1) as usize];
+    spans::add_span(b, here.input.image, k, here.at, n);
     Step {
         slots: s,
         pixels: n,
-    }
-}
-
-// The pixel n after another, of a row that goes so far.
-fn pixel_past(w: u32, at: Pixel, n: u32) -> Pixel
-    requires { (0 < n) × (at.x + n ≤ w) × (w < count_bound) × (at.y < count_bound) × (at.i + n ≤ count_bound) }
-    ensures { (result.i ≡ at.i + n) × (result.x < w) × (at.i ≡ w * at.y + at.x → result.i ≡ w * result.y + result.x) }
-{
-    let i = at.i + n;
-    if at.x + n == w {
-        return Pixel {
-            i,
-            x: 0,
-            y: at.y + 1,
-        };
-    }
-    Pixel {
-        i,
-        x: at.x + n,
-        y: at.y,
     }
 }
 
@@ -432,9 +361,10 @@ pub(crate) fn stage_1(b: &mut Builder, input: &Input) -> Slots
     };
     let mut at = Pixel { i: 0, x: 0, y: 0 };
     while at.i < size {
-        let t = take_pixels(b, input, &limits, s, at);
+        let here = Here { input: &*input, at };
+        let t = take_pixels(b, here, &limits, s);
         s = t.slots;
-        at = pixel_past(input.w, at, t.pixels);
+        at = here.past(t.pixels);
     }
     s
 }

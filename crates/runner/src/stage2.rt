@@ -13,7 +13,7 @@ use super::builder::Builder;
 use super::cluster::Nearest;
 use super::input::Input;
 use super::queue::{Entry, Queue};
-use super::{builder, cluster, geometry, keying, queue, slot};
+use super::{builder, cluster, geometry, queue, slot};
 use crate::RunnerConfig;
 
 // What stage 2 has beside the lists, for room = w × h + 1 slots: the ends of the hole lists (room), the queue of
@@ -140,7 +140,7 @@ fn isolated(staged: &mut [u32], o: RunnerConfig, t: Turns, e: Entry) -> Turns
     requires { CanPut t.m staged.old }
     ensures { Put (goes_out (config_of o) t.largest e.key) e.slot t result staged.old staged.new }
 {
-    if t.largest <= e.key || (keying::keying_on(o) && keying::is_discard(o)) {
+    if t.largest <= e.key || (o.keying_on() && o.is_discard()) {
         put_out(staged, t, e.slot)
     } else {
         t

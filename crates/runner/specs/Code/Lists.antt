@@ -3,6 +3,7 @@ use Rattle.std.specs.Prelude.{◌≡◌, List, ℕ, length}
 use Rattle.rules.specs.Color.{RunnerConfig}
 use Rattle.runner.specs.declared.builder.Builder.{Builder}
 use Rattle.runner.specs.declared.input.Input.{Input}
+use Rattle.runner.specs.declared.input.Here.{Here}
 use Rattle.runner.specs.declared.stage2.Work.{Work}
 use Rattle.runner.specs.Types.{config_of}
 
@@ -45,3 +46,7 @@ pub record SameWork (old new : Work) : Type 0 where
 -- f of settings, width, height and image
 abbrev pub of_input : {A : Type 1} → (RunnerConfig → ℕ → ℕ → List ℕ → A) → Input → A
 of_input f p = f (config_of p.o) p.w p.h p.image.now
+
+-- f of the same, of the shift, and of a pixel's number, column and row
+abbrev pub of_here : {A : Type 1} → (RunnerConfig → ℕ → ℕ → List ℕ → ℕ → ℕ → ℕ → ℕ → A) → Here → A
+of_here f p = of_input f p.input.now p.input.now.shift p.at.i p.at.x p.at.y

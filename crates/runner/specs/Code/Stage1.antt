@@ -1,6 +1,6 @@
 -- Stage 1 over the buffers: what its functions are given and what they hold.
 use Rattle.std.specs.Prelude.{◌≡◌, ◌≢◌, Bool, true, false, not, ◌&&◌, List, ℕ, ◌+◌, ◌*◌, ◌≤◌, ◌<◌, T, ltb, eqb}
-use Rattle.std.specs.Prelude.{length, replicate, if◌then◌else◌}
+use Rattle.std.specs.Prelude.{length, replicate, if◌then◌else◌, Option, Some, None}
 use Rattle.std.proofs.Math.Option.{some}
 use Rattle.rules.specs.Color.{RunnerConfig, pixel, keying_on, is_discard}
 use Rattle.rules.specs.Grid.{up, left, up_left}
@@ -9,20 +9,21 @@ use Rattle.rules.specs.Stage1.{color_at, same_at, is_key, place, taken}
 use Rattle.rules.specs.Demand3.{Discarded}
 use Rattle.rules.specs.Code.Early.{Early}
 use Rattle.rules.specs.Layout.{slot_width}
+use Rattle.color.specs.declared.Color.{Color}
 use Rattle.color.specs.Colors.{color_of, option_of}
-use Rattle.runner.specs.declared.stage1.Seen.{Seen}
 use Rattle.runner.specs.declared.stage1.Into.{Into}
-use Rattle.runner.specs.declared.stage1.Into.TheVariants.{Nowhere, Zero, Up, Left, Fresh}
+use Rattle.runner.specs.declared.stage1.Into.TheVariants.{Zero, Up, Left, Fresh}
 use Rattle.runner.specs.Code.Slots.{cleared_slot}
 use Rattle.runner.specs.Code.Rep.{Rep}
 use Rattle.runner.specs.Code.Given.{Given, Spot}
 
--- what is seen from pixel i of an image of w columns
-pub record SeenAt (w : ℕ) (image : List ℕ) (i : ℕ) (p : Seen) : Type 0 where
-  pub own : color_of p.own ≡ pixel image i
-  pub to-left : option_of p.left ≡ color_at image (left w i)
-  pub to-up : option_of p.up ≡ color_at image (up w i)
-  pub to-up-left : option_of p.up_left ≡ color_at image (up_left w i)
+-- what is seen from pixel i of an image of w columns: its own colour c, and the pixels l to the left, u above, and v to
+-- the left of that one
+pub record SeenAt (w : ℕ) (image : List ℕ) (i : ℕ) (c : Color) (l u v : Option Color) : Type 0 where
+  pub own : color_of c ≡ pixel image i
+  pub to-left : option_of l ≡ color_at image (left w i)
+  pub to-up : option_of u ≡ color_at image (up w i)
+  pub to-up-left : option_of v ≡ color_at image (up_left w i)
 
 -- the buffers hold state s, whose next free number and slot count the code has beside them
 pub record Holding (size : ℕ) (s : State) (t₀ L K B E : List ℕ) (next count : ℕ) : Type 0 where
@@ -48,27 +49,18 @@ joined o w image i = into_of (same_at o image (some i) (up_left w i)) (same_at o
     (same_at o image (some i) (left w i))
 
 -- where pixel i goes, by whether it is a key pixel, key pixels are discarded, and the three tests
-abbrev pub goes_by : Bool → Bool → Bool → Bool → Bool → Into
-goes_by true true a u l = Nowhere
-goes_by true false a u l = Zero
-goes_by false d a u l = into_of a u l
+abbrev pub goes_by : Bool → Bool → Bool → Bool → Bool → Option Into
+goes_by true true a u l = None
+goes_by true false a u l = Some Zero
+goes_by false d a u l = Some (into_of a u l)
 
 -- the same of pixel i
-abbrev pub goes_into : RunnerConfig → ℕ → List ℕ → ℕ → Into
+abbrev pub goes_into : RunnerConfig → ℕ → List ℕ → ℕ → Option Into
 goes_into o w image i = goes_by (is_key o image i) (is_discard o.keying_action) (same_at o image (some i) (up_left w i))
     (same_at o image (some i) (up w i)) (same_at o image (some i) (left w i))
 
--- whether it goes nowhere
-abbrev pub is_nowhere : Into → Bool
-is_nowhere Nowhere = true
-is_nowhere Zero = false
-is_nowhere Up = false
-is_nowhere Left = false
-is_nowhere Fresh = false
-
 -- the slot that it goes to, with l and u for the labels of left and up and n for next
 abbrev pub slot_for : Into → ℕ → ℕ → ℕ → ℕ
-slot_for Nowhere l u n = 0
 slot_for Zero l u n = 0
 slot_for Up l u n = u
 slot_for Left l u n = l
@@ -76,7 +68,6 @@ slot_for Fresh l u n = n
 
 -- the table, next and count then: a fresh slot is cleared
 abbrev pub table_for : Into → ℕ → List ℕ → List ℕ
-table_for Nowhere n B = B
 table_for Zero n B = B
 table_for Up n B = B
 table_for Left n B = B
@@ -84,7 +75,6 @@ table_for Fresh n B = cleared_slot B n
 
 -- the next free number then
 abbrev pub next_for : Into → ℕ → ℕ
-next_for Nowhere n = n
 next_for Zero n = n
 next_for Up n = n
 next_for Left n = n
@@ -92,7 +82,6 @@ next_for Fresh n = n + 1
 
 -- the number of slots then
 abbrev pub count_for : Into → ℕ → ℕ → ℕ
-count_for Nowhere n m = m
 count_for Zero n m = m
 count_for Up n m = m
 count_for Left n m = m

@@ -38,20 +38,15 @@ loop-at-init c =
       };
     }
 
-pub pixel_past-at-requires : goal.pixel_past-at-requires
-pixel_past-at-requires c =
-    let z = inside (goal.at.pixel_past-at-requires c).After-take_pixels-t in
-    (omega arith, omega arith, search rules, search rules, omega (arith, z, c.args.input.now.given.small))
-
 pub loop-at-preserved : goal.loop-at-preserved
 loop-at-preserved c = let I = c.loop-at.invariant.going in
     record {
       loans = search rules;
       going = record {
-        index = c.pixel_past-at.ensures.2 I.index;
-        column = c.pixel_past-at.ensures.1;
+        index = c.past-at.ensures.2;
+        column = c.past-at.ensures.1;
         within = omega (arith, inside (goal.at.loop-at-preserved c).After-take_pixels-t);
-        held = λ t₀ e r. rw c.pixel_past-at.ensures.0 (c.take_pixels-t.ensures.holding t₀ (taking c.args.input.now.given I c.loop-at-test.true t₀ e r));
+        held = λ t₀ e r. rw c.past-at.ensures.0 (c.take_pixels-t.ensures.holding t₀ (taking c.args.input.now.given I c.loop-at-test.true t₀ e r));
       };
     }
 

@@ -12,8 +12,8 @@ some c = omega (arith, c.if-n-eq0.false)
 pub span_length-n-requires-clause-labelled : goal.span_length-n-requires-clause-labelled
 span_length-n-requires-clause-labelled c = labels-fit c.requires.taking.1
 
-pub bounds-b-at : goal.bounds-b-at
-bounds-b-at c = let Q = c.requires.taking.1 in omega (arith, labels-fit Q, spot_in Q.spot)
+pub bounds-b-here : goal.bounds-b-here
+bounds-b-here c = let Q = c.requires.taking.1 in omega (arith, labels-fit Q, spot_in Q.spot)
 
 pub add_span-requires : goal.add_span-requires
 add_span-requires c = can-span c.requires.taking.1 c.span_length-n.ensures (some (goal.at.add_span-requires c).Else-n-eq0)
