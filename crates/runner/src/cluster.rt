@@ -169,9 +169,10 @@ pub(crate) fn neighbours(
         own: k,
         mine: color(b.table, k),
     };
-    let mut at = slot::first_pixel(b.table, k);
+    let list = slot::list(b.table, k);
+    let mut at = list.first;
     let mut found = Nearest::default();
-    for _ in 0..b.count_of(k) {
+    for _ in 0..list.count {
         let p = at - 1;
         found = v.look(marks, p, found);
         at = links[p as usize];

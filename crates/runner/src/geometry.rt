@@ -3,10 +3,11 @@
 // list, so nothing is counted and the scan stops at the first such pixel.
 ghost use Rattle.std.specs.Prelude.{◌≡◌, ◌+◌, ◌*◌, ◌≤◌, ◌<◌, T, length, get_or};
 ghost use Rattle.rules.specs.Grid.{sides};
-ghost use Rattle.rules.specs.Layout.{walk, slot_width, first_pixel_place, InTable};
+ghost use Rattle.rules.specs.Layout.{slot_width, first_pixel_place, InTable};
 ghost use Rattle.rules.specs.Paint.{reads};
 ghost use Rattle.rules.specs.Stage2.{all_in};
 ghost use Rattle.runner.specs.Types.{config_of};
+ghost use Rattle.runner.specs.Code.Pixels.{pixels, Readable};
 ghost use Rattle.runner.specs.Code.Interior.{in_list, some_inside};
 ghost use Rattle.runner.specs.Code.Stage2.{patch_good_at, deepens_at};
 
@@ -15,20 +16,19 @@ use super::input::Input;
 use super::queue::Entry;
 use super::{keying, slot};
 use crate::HIERARCHICAL_MAX;
+use image::PixelList;
 
-// The cluster of a slot and what is read of it: the labels, and its list of `area` pixels from the first one, plus one,
-// along the links.
+// The cluster of a slot and what is read of it: the labels, and its list along the links.
 #[derive(Clone, Copy)]
 struct Candidate<'a> {
     input: &'a Input<'a>,
     labels: &'a [u32],
     links: &'a [u32],
     slot: u32,
-    first: u32,
-    area: u32,
+    list: PixelList,
     ghost labelled: { input.now.w * input.now.h ≡ length labels.now },
     ghost linked: { input.now.w * input.now.h ≤ length links.now },
-    ghost listed: { T (reads (input.now.w * input.now.h) links.now first area) },
+    ghost listed: { Readable (input.now.w * input.now.h) links.now list },
 }
 
 impl<'a> Candidate<'a> {
@@ -66,10 +66,10 @@ impl<'a> Candidate<'a> {
     fn has_interior(self) -> bool
         ensures { let c = self.entry in let p = c.input.now in
             result ≡ some_inside (config_of p.o) p.image.now c.labels.now p.w p.h c.slot
-            (walk (λ p. get_or c.links.now p 0) c.first c.area) }
+            (pixels c.links.now c.list) }
     {
-        let mut at = self.first;
-        for _ in 0..self.area {
+        let mut at = self.list.first;
+        for _ in 0..self.list.count {
             let p = at - 1;
             if self.surrounded(p) {
                 return true;
@@ -83,11 +83,12 @@ impl<'a> Candidate<'a> {
     #[tactic(auto, unfolding(crate::specs::Code::Stage2::patch_good_at))]
     fn patch_good(self) -> bool
         ensures { let c = self.entry in let p = c.input.now in
-            result ≡ patch_good_at (config_of p.o) p.image.now c.labels.now c.links.now p.w p.h c.slot c.first c.area }
+            result ≡ patch_good_at (config_of p.o) p.image.now c.labels.now c.links.now p.w p.h c.slot
+            c.list.first c.list.count }
     {
         let o = &self.input.o;
-        o.good_min_area < self.area
-            && self.area < o.good_max_area
+        o.good_min_area < self.list.count
+            && self.list.count < o.good_max_area
             && (o.good_min_area == 0 || self.has_interior())
     }
 }
@@ -111,8 +112,10 @@ pub(crate) fn deepens(b: &Builder, input: &Input, e: Entry, diff: u32) -> bool
         labels: &*b.labels,
         links: &*b.links,
         slot: e.slot,
-        first: slot::first_pixel(b.table, e.slot),
-        area: e.key,
+        list: PixelList {
+            first: slot::first_pixel(b.table, e.slot),
+            count: e.key,
+        },
     };
     o.hierarchical == HIERARCHICAL_MAX && o.deepen_diff < diff as i32 && candidate.patch_good()
 }

@@ -1,15 +1,15 @@
-use mathlib.Core.Path.{◌≡◌, refl, ◌∙◌}
+use mathlib.Core.Path.{◌≡◌, refl, ap, ◌∙◌}
 use mathlib.Core.List.{List, map}
 use Prim.Native.Nat.{ℕ, ◌+◌, ◌-◌, ◌*◌, ◌≤◌, ◌<◌}
 use native.Mathlib.Omega.{arith}
 use lib.ListN.{length, get_or}
+use Rattle.image.specs.declared.PixelList.{PixelList}
 use Rattle.rules.specs.Color.{Color, average}
 use Rattle.rules.specs.Grid.{sides}
-use Rattle.rules.specs.Layout.{slot_width, pixel_count_place}
 use Rattle.rules.specs.Code.Bounds.{capacity}
 use Rattle.rules.specs.Stage2.{labels_at, labels_around}
 use Rattle.rules.proofs.Labels.{sides-fit}
-use Rattle.runner.specs.Code.Slots.{sum_at}
+use Rattle.runner.specs.Code.Slots.{sum_at, list_in}
 use Rattle.runner.specs.Code.Neighbours.{place_label, diff_from, diff_at, Scan, noted_four, Scannable}
 use Rattle.rules.proofs.Walks.{step}
 use Rattle.runner.proofs.Nearest.{each-length, each-count, each_holds}
@@ -42,6 +42,6 @@ module _ (labels links table marks : List ℕ) (w h k visit : ℕ) (small : w * 
 
 pub loop-preserved : goal.loop-preserved
 loop-preserved c =
-    let count = get_or c.args.b.now.table.now (slot_width * c.args.k + pixel_count_place) 0 in
+    let count = (list_in c.args.b.now.table.now c.args.k).count in
     let e : count - (c.loop.counter + 1) ≡ count - c.loop.counter - 1 = omega arith in
-    rw e (turn _ _ _ _ _ _ _ _ c.args.input.now.given.small c.requires _ _ _ _ _ _ (omega arith) refl c.color.ensures c.look-found.ensures c.loop.invariant)
+    rw e (turn _ _ _ _ _ _ _ _ c.args.input.now.given.small c.requires _ _ _ _ _ _ (omega (arith, ap (λ (l : PixelList). l.count) c.list-list.ensures)) refl c.color.ensures c.look-found.ensures c.loop.invariant)

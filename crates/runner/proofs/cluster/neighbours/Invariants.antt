@@ -3,9 +3,10 @@ use mathlib.Core.List.{List, []}
 use Prim.Native.Nat.{ℕ, ◌+◌, ◌-◌, ◌*◌, ◌≤◌}
 use lib.Dec.{T}
 use lib.ListN.{length, get_or}
-use Rattle.rules.specs.Layout.{walk, slot_width, pixel_count_place}
+use Rattle.rules.specs.Layout.{walk}
 use Rattle.rules.specs.Paint.{reads}
 use Rattle.rules.specs.Stage2.{labels_around}
+use Rattle.runner.specs.Code.Slots.{list_in}
 use Rattle.runner.specs.Code.Neighbours.{diff_at, Scan, list_at}
 use Rattle.runner.proofs.Nearest.{Holds}
 use Rattle.runner.proofs.cluster.neighbours.Given as goal
@@ -21,4 +22,4 @@ pub record Going (labels links table marks : List ℕ) (w h k visit : ℕ) (s : 
 
 abbrev pub invariant-loop : goal.invariant-loop
 invariant-loop l = let b = l.fn.b in
-    Going b.labels.now b.links.now b.table.now l.initial.marks l.fn.input.w l.fn.input.h l.k l.visit (record { marks = l.marks; nearest = l.found }) l.at (get_or b.table.now (slot_width * l.k + pixel_count_place) 0 - l.counter)
+    Going b.labels.now b.links.now b.table.now l.initial.marks l.fn.input.w l.fn.input.h l.k l.visit (record { marks = l.marks; nearest = l.found }) l.at ((list_in b.table.now l.k).count - l.counter)
