@@ -11,6 +11,7 @@ mod geometry;
 mod input;
 mod keying;
 mod labelling;
+mod list;
 mod outputs;
 mod queue;
 mod slot;
