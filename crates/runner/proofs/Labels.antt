@@ -9,31 +9,33 @@ use Rattle.std.proofs.Common.{length-drop, drop-cons}
 use Rattle.std.proofs.Math.ListN.{replicate}
 use Rattle.std.proofs.lemmas.Grind.{common_steps}
 use Rattle.std.proofs.lemmas.List.{set_at, length-take-le, length-replicate, replicate_more}
+use Rattle.image.specs.declared.PixelList.{PixelList}
 use Rattle.rules.specs.State.{relabel}
 use Rattle.rules.specs.Code.Spans.{set_from, Consecutive}
 use Rattle.rules.proofs.Walks.{Step, step}
 use Rattle.rules.proofs.Spans.{length-set_from}
-use Rattle.rules.proofs.Relabels.{stretch}
+use Rattle.rules.proofs.Relabels.{Stretch, stretch}
 use Rattle.runner.specs.Code.Labelling.{CanRelabel, Relabels}
 
-module _ {L K : List ℕ} {at left : ℕ} (C : CanRelabel L K at left) where
+module _ {L K : List ℕ} {list : PixelList} (C : CanRelabel L K list) where
   -- the list has a next pixel
-  pub next-step : 0 < left → Step (length L) K at left
-  next-step l = step (length L) K at left l C.list
+  pub next-step : 0 < list.count → Step (length L) K list.first list.count
+  next-step l = step (length L) K list.first list.count l C.readable
 
   -- that pixel is relabelled
-  pub relabels-one : (t : ℕ) → 0 < left → Relabels t L K at left (set L (at - 1) t) (get_or K (at - 1) 0) (left - 1)
-  relabels-one t l = record { width = length-set L (at - 1) t; list = (next-step l).rest; same = sym (ap (λ ps. relabel t ps L) (next-step l).here) }
+  pub relabels-one : (t : ℕ) → 0 < list.count → Relabels t L K list (set L (list.first - 1) t) (record { first = get_or K (list.first - 1) 0; count = list.count - 1 })
+  relabels-one t l = record { width = length-set L (list.first - 1) t; readable = (next-step l).rest; same = sym (ap (λ ps. relabel t ps L) (next-step l).here) }
 
   -- n pixels after it are relabelled with it
-  module _ (n : ℕ) (l : n < left) (c : Consecutive K at n) where
-    pub stretch-in : at - 1 + n < length L
-    stretch-in = (stretch (length L) K at left n l C.list c).within
+  module _ (n : ℕ) (l : n < list.count) (c : Consecutive K list.first n) where
+    run : Stretch (length L) K list.first list.count n
+    run = stretch (length L) K list.first list.count n l C.readable c
 
-    pub relabels-stretch : (t : ℕ) → Relabels t L K at left (set_from L (at - 1) (n + 1) t) (get_or K (at - 1 + n) 0) (left - (n + 1))
-    relabels-stretch t =
-        let S = stretch (length L) K at left n l C.list c in
-        record { width = length-set_from L (at - 1) (n + 1) t; list = rw add-one S.rest; same = rw add-one (sym (S.same t L)) }
+    pub stretch-in : list.first - 1 + n < length L
+    stretch-in = run.within
+
+    pub relabels-stretch : (t : ℕ) → Relabels t L K list (set_from L (list.first - 1) (n + 1) t) (record { first = get_or K (list.first - 1 + n) 0; count = list.count - (n + 1) })
+    relabels-stretch t = record { width = length-set_from L (list.first - 1) (n + 1) t; readable = rw add-one run.rest; same = rw add-one (sym (run.same t L)) }
 
 -- ---- a stretch filled
 

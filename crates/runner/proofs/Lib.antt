@@ -28,3 +28,4 @@ pub mod Turning
 pub mod Visiting
 pub mod SpanLaws
 pub mod Labels
+pub mod Pixels

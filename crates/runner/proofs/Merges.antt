@@ -77,7 +77,7 @@ module _ {o : RunnerConfig} {w h : ℕ} {image : List ℕ} {q : Queue} {k : ℕ}
       list = record {
         links = omega (arith, rep-labels-length (going A).sound.basic R, rep-links-length (going A).sound.basic R);
         small = omega (arith, rep-labels-length (going A).sound.basic R, A.image-fits.small);
-        list = subst (λ x. T (reads (length L) K x.first x.count)) (sym (head k own-slot))
+        readable = subst (λ x. T (reads (length L) K x.first x.count)) (sym (head k own-slot))
             (subst (λ n. T (reads n K (first_of (cluster s k).pixels) a)) (sym (rep-labels-length (going A).sound.basic R)) (rep-reads (going A).sound.basic R k (root-chain (going A).sound k A.ready.root)));
       };
       sum = subst (λ x. Adds (sum_of x.sum) (sum_of (head_at B k).sum)) (sym (head t target-slot))

@@ -27,6 +27,8 @@ use Rattle.rules.proofs.Neighbours.{all_in}
 use Rattle.rules.specs.Code.Bounds.{capacity}
 use Rattle.runner.specs.Code.Given.{Given}
 use Rattle.runner.specs.Code.Rep.{Rep}
+use Rattle.runner.specs.Code.Slots.{list_in}
+use Rattle.runner.specs.Code.Pixels.{Readable}
 use Rattle.runner.specs.Code.Interior.{some_inside}
 use Rattle.runner.specs.Code.Neighbours.{diff_at, nearest_of, Averaged, Scannable, list_at}
 use Rattle.runner.specs.Code.Stage2.{queue_at, patch_good_at, deepens_at}
@@ -120,11 +122,11 @@ module _ {o : RunnerConfig} {w h : ℕ} {image : List ℕ} {q : Queue} {k : ℕ}
     count-is = count_at s R.tabled k A.ready.picked.slot
 
     -- its list can be read, and is the list of the rules
-    pub list-reads : T (reads (w * h) K (get_or B (slot_width * k + first_pixel_place) 0) (area (cluster q.now k)))
-    list-reads = subst (λ v. T (reads (w * h) K v (area (cluster s k)))) (sym first-is) (rep-reads going.sound.basic R k (root-chain going.sound k A.ready.root))
+    pub list-reads : Readable (w * h) K (list_in B k)
+    list-reads = rw (first-is, count-is) (rep-reads going.sound.basic R k (root-chain going.sound k A.ready.root))
 
-    pub list-is : walk (λ p. get_or K p 0) (get_or B (slot_width * k + first_pixel_place) 0) (area (cluster q.now k)) ≡ (cluster q.now k).pixels
-    list-is = ap (λ v. walk (λ p. get_or K p 0) v (area (cluster s k))) first-is ∙ rep-walk going.sound.basic R k (root-chain going.sound k A.ready.root)
+    pub list-is : list_at K B k ≡ (cluster q.now k).pixels
+    list-is = rw (first-is, count-is) (rep-walk going.sound.basic R k (root-chain going.sound k A.ready.root))
 
     -- the scan for its neighbours
     pub scannable : (M : List ℕ) → length M ≡ w * h + 1 → (v : ℕ) → ((j : ℕ) → get_or M j 0 < v) → Scannable L K B M w h k v
@@ -133,7 +135,7 @@ module _ {o : RunnerConfig} {w h : ℕ} {image : List ℕ} {q : Queue} {k : ℕ}
       linked = omega (arith, rep-links-length going.sound.basic R);
       own = averaged k (get_or (cluster s k).pixels 0 0) (visits.stands (area (cluster s k)) k s going some-pixels refl);
       few = omega (arith, count-is, A.ranged.areas k);
-      readable = subst (λ n. T (reads (w * h) K (get_or B (slot_width * k + first_pixel_place) 0) n)) (sym count-is) list-reads;
+      readable = list-reads;
       notable = λ p l x. record {
         mark = omega (arith, wide, ap (λ ls. get_or ls p 0) R.labelled, A.ranged.labels p, A.ranged.slots);
         averaged = averaged (get_or L p 0) p (subst (λ ls. T (ledger s.log (get_or ls p 0) p)) (sym R.labelled) (going.sound.basic.shown p (λ z. x (ap (λ ls. get_or ls p 0) R.labelled ∙ z))));
@@ -143,15 +145,16 @@ module _ {o : RunnerConfig} {w h : ℕ} {image : List ℕ} {q : Queue} {k : ℕ}
 
     -- what it finds
     pub nearest-is : nearest_of (diff_at B k) (labels_around w h L k (list_at K B k) []) ≡ nearest_of (rank q.now k) (neighbours w h q.now k)
-    nearest-is = neighbours-nearest w h s k L K B R.labelled (ap (walk (λ p. get_or K p 0) (get_or B (slot_width * k + first_pixel_place) 0)) count-is ∙ list-is)
+    nearest-is = neighbours-nearest w h s k L K B R.labelled list-is
         (visits.mine (area (cluster s k)) k s going some-pixels refl) (sum-at s R.tabled k A.ready.picked.slot)
         (λ l i. sum-at s R.tabled l (visits.t-slot (area (cluster s k)) k s going some-pixels refl l (neighbour-near l i)))
 
     -- whether it deepens
-    pub deepens-is : (t d : ℕ) → d ≡ cluster_diff q.now k t → deepens_at o image L K w h k (get_or B (slot_width * k + first_pixel_place) 0) (area (cluster q.now k)) d ≡ deepens o w h q.now k t
+    pub deepens-is : (t d : ℕ) → d ≡ cluster_diff q.now k t → deepens_at o image L K w h k (list_in B k) d ≡ deepens o w h q.now k t
     unfolding deepens_at patch_good_at some_inside
     deepens-is t d e =
         let a = area (cluster s k) in
-        ap₂ (λ ls ps. eqb o.hierarchical hierarchical_max && (ltb o.good_min_area a && ltb a o.good_max_area && (eqb o.good_min_area 0 || some_inside o image ls w h k ps)) && exceeds d o.deepen_diff) R.labelled list-is
+        ap (λ n. eqb o.hierarchical hierarchical_max && (ltb o.good_min_area n && ltb n o.good_max_area && (eqb o.good_min_area 0 || some_inside o image L w h k (list_at K B k))) && exceeds d o.deepen_diff) count-is
+        ∙ ap₂ (λ ls ps. eqb o.hierarchical hierarchical_max && (ltb o.good_min_area a && ltb a o.good_max_area && (eqb o.good_min_area 0 || some_inside o image ls w h k ps)) && exceeds d o.deepen_diff) R.labelled list-is
         ∙ ap (λ x. eqb o.hierarchical hierarchical_max && (ltb o.good_min_area a && ltb a o.good_max_area && (eqb o.good_min_area 0 || some_inside o image s.labels w h k (cluster s k).pixels)) && exceeds x o.deepen_diff) e
         ∙ sym (A.ready.deepening t)

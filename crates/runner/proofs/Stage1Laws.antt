@@ -161,7 +161,7 @@ module _ {o : RunnerConfig} {w h : ℕ} {image : List ℕ} {shift i x y l u : �
       list = record {
         links = omega (arith, labels-long P.early P.holding.rep, links-long P.early P.holding.rep);
         small = omega (arith, labels-long P.early P.holding.rep, P.given.small);
-        list = subst T (sym (ap (λ z. reads (length L) K z.first z.count) (head_is f hf) ∙ ap (λ z. reads z K (first_of (cluster s f).pixels) (area (cluster s f))) (labels-long P.early P.holding.rep)))
+        readable = subst T (sym (ap (λ z. reads (length L) K z.first z.count) (head_is f hf) ∙ ap (λ z. reads z K (first_of (cluster s f).pixels) (area (cluster s f))) (labels-long P.early P.holding.rep)))
             (list-reads P.early P.holding.rep f);
       };
       sum =

@@ -25,6 +25,8 @@ use Rattle.runner.specs.declared.cluster.Nearest.{Nearest}
 use Rattle.runner.specs.Code.Given.{Given}
 use Rattle.runner.specs.Code.Ops.{CanMerge, Merged, CanDeepen, Deepened, CanHollow, Hollowed}
 use Rattle.runner.specs.Code.Queue.{KeySet, queue_key}
+use Rattle.runner.specs.Code.Slots.{list_in}
+use Rattle.runner.specs.Code.Pixels.{Readable}
 use Rattle.runner.specs.Code.Neighbours.{diff_at, nearest_of, Scannable, list_at}
 use Rattle.runner.specs.Code.Stage2.{Carried, CanPut, Put, goes_out, CanGrow, Grown, queue_at, visit_at, Visiting, Aimed, Visited, deepens_at}
 use Rattle.runner.proofs.Queues.{stored_some}
@@ -185,11 +187,11 @@ module _ {o : RunnerConfig} {w h : ℕ} {image : List ℕ} {shift : ℕ} (I : Gi
     apart = visits.k≢t (area (cluster s k)) k s (going moment) (some-pixels moment) refl to aim.near-to
 
     -- the test for deepening, as code makes it
-    pub deepens-told : {x y : Bool} → x ≡ deepens_at o image L K w h k (get_or B (slot_width * k + first_pixel_place) 0) a near.diff → x ≡ y → deepens o w h (queue_at o w h image t.turns).now k near.target ≡ y
-    deepens-told p r = sym (ap (λ n. deepens_at o image L K w h k (get_or B (slot_width * k + first_pixel_place) 0) n near.diff) X.chosen.count ∙ deepens-is moment X.carried.rep X.table_fits to near.diff aim.differs) ∙ sym p ∙ r
+    pub deepens-told : {x y : Bool} → x ≡ deepens_at o image L K w h k (list_in B k) near.diff → x ≡ y → deepens o w h (queue_at o w h image t.turns).now k near.target ≡ y
+    deepens-told p r = sym (deepens-is moment X.carried.rep X.table_fits to near.diff aim.differs) ∙ sym p ∙ r
 
-    pub deepens-reads : T (reads (w * h) K (get_or B (slot_width * k + first_pixel_place) 0) a)
-    deepens-reads = subst (λ n. T (reads (w * h) K (get_or B (slot_width * k + first_pixel_place) 0) n)) (sym X.chosen.count) (list-reads moment X.carried.rep X.table_fits)
+    pub deepens-reads : Readable (w * h) K (list_in B k)
+    deepens-reads = list-reads moment X.carried.rep X.table_fits
 
     pub diff-told : near.diff < 2147483648
     diff-told = omega (arith, aim.differs, diff-fits moment to)

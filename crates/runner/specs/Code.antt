@@ -1,6 +1,7 @@
 -- What only code and proofs need.
 pub mod Slots
 pub mod Rep
+pub mod Pixels
 pub mod Labelling
 pub mod Lists
 pub mod Ops

@@ -115,13 +115,7 @@ impl<'a> Builder<'a> {
         let links = &mut *self.links;
         let table = &mut *self.table;
         let ends = &mut *self.ends;
-        labelling::relabel(
-            labels,
-            links,
-            slot::first_pixel(table, f),
-            slot::count_of(table, f),
-            t,
-        );
+        labelling::relabel(labels, links, slot::list(table, f), t);
         let from = slot::load_head(table, f);
         let to = slot::load_head(table, t);
         link_after(links, to.count, ends[t as usize], from.first);

@@ -8,6 +8,7 @@ ghost use Rattle.runner.specs.Code.Neighbours.{with_neighbour, Averaged, Scannab
 
 use super::builder::Builder;
 use super::input::Input;
+use super::list::Pixels;
 use super::slot;
 use color::Color;
 use image::layout;
@@ -148,7 +149,7 @@ impl<'a> Visit<'a> {
 }
 
 // The neighbours of cluster k, each marked with the number of the visit.
-#[tactic(auto, unfolding(rules::specs::Stage2::labels_around), using(rules::proofs::Walks::step, rules::proofs::Walks::walk_none))]
+#[tactic(auto, unfolding(rules::specs::Stage2::labels_around), using(crate::proofs::Pixels::pixels_within, crate::proofs::Pixels::pixels_few, crate::proofs::Pixels::readable_wider))]
 pub(crate) fn neighbours(
     b: &Builder,
     marks: &mut [u32],
@@ -160,7 +161,6 @@ pub(crate) fn neighbours(
     ensures { Found b.now.labels.now b.now.links.now b.now.table.now input.now.w input.now.h k visit result
         marks.new }
 {
-    let links = &*b.links;
     let v = Visit {
         input,
         labels: &*b.labels,
@@ -169,12 +169,13 @@ pub(crate) fn neighbours(
         own: k,
         mine: color(b.table, k),
     };
-    let mut at = slot::first_pixel(b.table, k);
+    let pixels = Pixels {
+        links: &*b.links,
+        left: slot::list(b.table, k),
+    };
     let mut found = Nearest::default();
-    for _ in 0..b.count_of(k) {
-        let p = at - 1;
+    for p in pixels {
         found = v.look(marks, p, found);
-        at = links[p as usize];
     }
     found
 }

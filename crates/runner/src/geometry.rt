@@ -1,37 +1,34 @@
 // Whether a cluster deepens, after `patch_good` of runner.rs and the boundary test of geometry.rs. With a smallest area
 // of 1 or more the boundary is smaller than the area exactly if some pixel of the list has its four neighbours in the
 // list, so nothing is counted and the scan stops at the first such pixel.
-ghost use Rattle.std.specs.Prelude.{◌≡◌, ◌+◌, ◌*◌, ◌≤◌, ◌<◌, T, length, get_or};
+ghost use Rattle.std.specs.Prelude.{◌≡◌, ◌*◌, ◌≤◌, ◌<◌, length};
 ghost use Rattle.rules.specs.Grid.{sides};
-ghost use Rattle.rules.specs.Layout.{walk, slot_width, first_pixel_place, InTable};
-ghost use Rattle.rules.specs.Paint.{reads};
+ghost use Rattle.rules.specs.Layout.{InTable};
 ghost use Rattle.rules.specs.Stage2.{all_in};
 ghost use Rattle.runner.specs.Types.{config_of};
+ghost use Rattle.runner.specs.Code.Slots.{list_in};
+ghost use Rattle.runner.specs.Code.Pixels.{pixels, Readable};
 ghost use Rattle.runner.specs.Code.Interior.{in_list, some_inside};
 ghost use Rattle.runner.specs.Code.Stage2.{patch_good_at, deepens_at};
 
 use super::builder::Builder;
 use super::input::Input;
-use super::queue::Entry;
+use super::list::Pixels;
 use super::slot;
 use crate::HIERARCHICAL_MAX;
 
-// The cluster of a slot and what is read of it: the labels, and its list of `area` pixels from the first one, plus one,
-// along the links.
+// The cluster of a slot and what is read of it: the labels, and the pixels of its list.
 #[derive(Clone, Copy)]
-struct Candidate<'a> {
+struct Candidate<'a, 'b> {
     input: &'a Input<'a>,
-    labels: &'a [u32],
-    links: &'a [u32],
+    labels: &'b [u32],
     slot: u32,
-    first: u32,
-    area: u32,
+    pixels: Pixels<'b>,
     ghost labelled: { input.now.w * input.now.h ≡ length labels.now },
-    ghost linked: { input.now.w * input.now.h ≤ length links.now },
-    ghost listed: { T (reads (input.now.w * input.now.h) links.now first area) },
+    ghost listed: { Readable (input.now.w * input.now.h) pixels.links.now pixels.left },
 }
 
-impl<'a> Candidate<'a> {
+impl Candidate<'_, '_> {
     // Whether pixel q is in the list, by its label.
     fn in_list(self, q: u32) -> bool
         requires { q < self.input.now.w * self.input.now.h }
@@ -61,57 +58,52 @@ impl<'a> Candidate<'a> {
     }
 
     // Whether some pixel of the list has its four neighbours in it.
-    #[tactic(auto, unfolding(crate::specs::Code::Interior::some_inside), using(rules::proofs::Walks::walk_none, rules::proofs::Walks::step))]
+    #[tactic(auto, unfolding(crate::specs::Code::Interior::some_inside), using(crate::proofs::Pixels::pixels_within))]
     fn has_interior(self) -> bool
         ensures { let c = self.entry in let p = c.input.now in
             result ≡ some_inside (config_of p.o) p.image.now c.labels.now p.w p.h c.slot
-            (walk (λ p. get_or c.links.now p 0) c.first c.area) }
+            (pixels c.pixels.links.now c.pixels.left) }
     {
-        let mut at = self.first;
-        for _ in 0..self.area {
-            let p = at - 1;
-            if self.surrounded(p) {
-                return true;
-            }
-            at = self.links[p as usize];
-        }
-        false
+        let mut pixels = self.pixels;
+        pixels.any(|p| self.surrounded(p))
     }
 
     // Whether it may stay a patch: a boundary smaller than the area is told by one pixel inside.
     #[tactic(auto, unfolding(crate::specs::Code::Stage2::patch_good_at))]
     fn patch_good(self) -> bool
         ensures { let c = self.entry in let p = c.input.now in
-            result ≡ patch_good_at (config_of p.o) p.image.now c.labels.now c.links.now p.w p.h c.slot c.first c.area }
+            result ≡ patch_good_at (config_of p.o) p.image.now c.labels.now c.pixels.links.now p.w p.h c.slot
+            c.pixels.left }
     {
         let o = &self.input.o;
-        o.good_min_area < self.area
-            && self.area < o.good_max_area
+        let area = self.pixels.left.count;
+        o.good_min_area < area
+            && area < o.good_max_area
             && (o.good_min_area == 0 || self.has_interior())
     }
 }
 
-// Whether the cluster of an entry deepens into a neighbour of difference diff.
-#[tactic(auto, unfolding(crate::specs::Code::Stage2::deepens_at))]
-pub(crate) fn deepens(b: &Builder, input: &Input, e: Entry, diff: u32) -> bool
-    requires slot { InTable e.slot b.now.table.now }
+// Whether cluster k deepens into a neighbour of difference diff.
+#[tactic(auto, unfolding(crate::specs::Code::Stage2::deepens_at), using(crate::proofs::Pixels::readable_wider))]
+pub(crate) fn deepens(b: &Builder, input: &Input, k: u32, diff: u32) -> bool
+    requires slot { InTable k b.now.table.now }
     requires lengths { let size = input.now.w * input.now.h in
         (size ≡ length b.now.labels.now) × (size ≤ length b.now.links.now) }
-    requires list { T (reads (input.now.w * input.now.h) b.now.links.now
-        (get_or b.now.table.now (slot_width * e.slot + first_pixel_place) 0) e.key) }
+    requires list { Readable (input.now.w * input.now.h) b.now.links.now (list_in b.now.table.now k) }
     requires diff_bound { diff < 2147483648 }
     ensures { let p = input.now in result
-        ≡ deepens_at (config_of p.o) p.image.now b.now.labels.now b.now.links.now p.w p.h e.slot
-        (get_or b.now.table.now (slot_width * e.slot + first_pixel_place) 0) e.key diff }
+        ≡ deepens_at (config_of p.o) p.image.now b.now.labels.now b.now.links.now p.w p.h k
+        (list_in b.now.table.now k) diff }
 {
     let o = &input.o;
     let candidate = Candidate {
         input,
         labels: &*b.labels,
-        links: &*b.links,
-        slot: e.slot,
-        first: slot::first_pixel(b.table, e.slot),
-        area: e.key,
+        slot: k,
+        pixels: Pixels {
+            links: &*b.links,
+            left: slot::list(b.table, k),
+        },
     };
     o.hierarchical == HIERARCHICAL_MAX && o.deepen_diff < diff as i32 && candidate.patch_good()
 }

@@ -1,69 +1,58 @@
 // Labels written for many pixels at once.
-ghost use Rattle.std.specs.Prelude.{◌≡◌, List, ℕ, ◌<◌, get_or};
+ghost use Rattle.std.specs.Prelude.{◌≡◌, List, ℕ, ◌<◌};
 ghost use Rattle.rules.specs.State as rules;
-ghost use Rattle.rules.specs.Layout.{walk};
 ghost use Rattle.rules.specs.Code.Spans.{Consecutive};
+ghost use Rattle.runner.specs.Code.Pixels.{pixels};
 ghost use Rattle.runner.specs.Code.Labelling.{CanRelabel, Relabels};
 
-// What is left of a list: its first pixel, plus one, and the number of its pixels.
-#[derive(Clone, Copy)]
-struct Rest {
-    at: u32,
-    left: u32,
-}
+use image::PixelList;
 
-// How many links of the rest of a list, its first ones, each lead to the next pixel of the image.
-fn stretch(links: &[u32], rest: Rest) -> u32
-    requires by_index { (L : List ℕ) × CanRelabel L links.now rest.at rest.left }
-    requires left_nonzero { 0 < rest.left }
-    ensures { (result < rest.left) × Consecutive links.now rest.at result }
+// How many links of what is left of a list, its first ones, each lead to the next pixel of the image.
+fn stretch(links: &[u32], rest: PixelList) -> u32
+    requires by_index { (L : List ℕ) × CanRelabel L links.now rest }
+    requires some_left { 0 < rest.count }
+    ensures { (result < rest.count) × Consecutive links.now rest.first result }
 {
-    let Rest { at, left } = rest;
-    for n in 0..left - 1 {
-        if links[(at - 1 + n) as usize] != at + n + 1 {
+    let PixelList { first, count } = rest;
+    for n in 0..count - 1 {
+        if links[(first - 1 + n) as usize] != first + n + 1 {
             return n;
         }
     }
-    left - 1
+    count - 1
 }
 
-// Labels the first pixel of the rest of a list with t, and those that follow it both in the list and in the image;
+// Labels the first pixel of what is left of a list with t, and those that follow it both in the list and in the image;
 // answers what is left then. Their places do not wait for their links.
-fn relabel_stretch(labels: &mut [u32], links: &[u32], rest: Rest, t: u32) -> Rest
-    requires can_relabel { CanRelabel labels.old links.now rest.at rest.left }
-    requires left_nonzero { 0 < rest.left }
-    ensures { (result.left < rest.left)
-        × Relabels t labels.old links.now rest.at rest.left labels.new result.at result.left }
+fn relabel_stretch(labels: &mut [u32], links: &[u32], rest: PixelList, t: u32) -> PixelList
+    requires can_relabel { CanRelabel labels.old links.now rest }
+    requires some_left { 0 < rest.count }
+    ensures { (result.count < rest.count) × Relabels t labels.old links.now rest labels.new result }
 {
-    let Rest { at, left } = rest;
-    let after = links[(at - 1) as usize];
-    if after == at + 1 {
+    let PixelList { first, count } = rest;
+    let after = links[(first - 1) as usize];
+    if after == first + 1 {
         let n = stretch(links, rest);
-        labels[(at - 1) as usize..(at + n) as usize].fill(t);
-        return Rest {
-            at: links[(at - 1 + n) as usize],
-            left: left - (n + 1),
+        labels[(first - 1) as usize..(first + n) as usize].fill(t);
+        return PixelList {
+            first: links[(first - 1 + n) as usize],
+            count: count - (n + 1),
         };
     }
-    labels[(at - 1) as usize] = t;
-    Rest {
-        at: after,
-        left: left - 1,
+    labels[(first - 1) as usize] = t;
+    PixelList {
+        first: after,
+        count: count - 1,
     }
 }
 
-// Labels the pixels of the list of count pixels from first with t.
+// Labels the pixels of the list with t.
 #[tactic(auto, using(rules::proofs::Walks::walk_none))]
-pub(crate) fn relabel(labels: &mut [u32], links: &[u32], first: u32, count: u32, t: u32)
-    requires { CanRelabel labels.old links.now first count }
-    ensures { labels.new
-        ≡ rules.relabel t (walk (λ p. get_or links.now p 0) first count) labels.old }
+pub(crate) fn relabel(labels: &mut [u32], links: &[u32], mut list: PixelList, t: u32)
+    requires { CanRelabel labels.old links.now list }
+    ensures { labels.new ≡ rules.relabel t (pixels links.now list) labels.old }
 {
-    let mut rest = Rest {
-        at: first,
-        left: count,
-    };
-    while 0 < rest.left {
-        rest = relabel_stretch(labels, links, rest, t);
+    while 0 < list.count {
+        list = relabel_stretch(labels, links, list, t);
     }
 }

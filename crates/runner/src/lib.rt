@@ -10,6 +10,7 @@ mod geometry;
 mod input;
 mod keying;
 mod labelling;
+mod list;
 mod outputs;
 mod queue;
 mod slot;

@@ -6,11 +6,11 @@ ghost use Rattle.rules.specs.State.{Cluster, new_cluster, pixel_rect, with_pixel
 ghost use Rattle.rules.specs.Layout.{first_of, slot_width, InTable, first_pixel_place, pixel_count_place};
 ghost use Rattle.rules.specs.Code.Bounds.{count_bound, sum_bound};
 ghost use Rattle.color.specs.Colors.{color_of, sum_of};
-ghost use Rattle.runner.specs.Code.Slots.{Adds, head_at, saved_head, residue_at, saved_residue, cleared_slot, head_of};
+ghost use Rattle.runner.specs.Code.Slots.{Adds, list_in, head_at, saved_head, residue_at, saved_residue, cleared_slot, head_of};
 
 use super::bound::BoundingRect;
 use color::{Color, ColorSum};
-use image::layout;
+use image::{PixelList, layout};
 
 // The first eleven numbers of a slot: list, rectangle, sum.
 #[derive(Clone, Copy)]
@@ -27,6 +27,17 @@ pub(crate) fn count_of(table: &[u32], k: u32) -> u32
     ensures { result ≡ get_or table.now (slot_width * k + pixel_count_place) 0 }
 {
     table[layout::SLOT_WIDTH * (k as usize) + layout::PIXEL_COUNT]
+}
+
+// The list of slot k.
+pub(crate) fn list(table: &[u32], k: u32) -> PixelList
+    requires { InTable k table.now }
+    ensures { result ≡ list_in table.now k }
+{
+    PixelList {
+        first: first_pixel(table, k),
+        count: count_of(table, k),
+    }
 }
 
 // The head of slot k.

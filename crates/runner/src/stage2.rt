@@ -127,7 +127,7 @@ fn merge_into_nearest(
         → of_slots (of_input Visiting input.now t₀) b.old work.old t e.slot e.key (t.turns + 1)
         → of_slots (of_input Visited input.now t₀) b.new work.new t result e.slot }
 {
-    if geometry::deepens(b, input, e, near.diff) {
+    if geometry::deepens(b, input, e.slot, near.diff) {
         return deepen_into_nearest(b, work, input, t, e.slot, near);
     }
     b.merge_cluster_into(e.slot, near.target);

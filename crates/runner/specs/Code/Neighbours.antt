@@ -5,11 +5,11 @@ use Rattle.std.proofs.Math.Option.{Option, none, some}
 use Rattle.rules.specs.Base.{each, least}
 use Rattle.rules.specs.Color.{Color, color_diff, average, has_average}
 use Rattle.rules.specs.Grid.{sides}
-use Rattle.rules.specs.Layout.{walk, slot_width, first_pixel_place, pixel_count_place}
-use Rattle.rules.specs.Paint.{reads}
+use Rattle.rules.specs.Layout.{slot_width}
 use Rattle.rules.specs.Stage2.{labels_around}
 use Rattle.runner.specs.declared.cluster.Nearest.{Nearest}
-use Rattle.runner.specs.Code.Slots.{sum_at}
+use Rattle.runner.specs.Code.Slots.{sum_at, list_in}
+use Rattle.runner.specs.Code.Pixels.{pixels, Readable}
 
 -- the label at a place, 0 where there is none
 abbrev pub place_label : List ℕ → Option ℕ → ℕ
@@ -75,17 +75,14 @@ pub record Scannable (labels links table marks : List ℕ) (w h k visit : ℕ) :
   pub labelled : w * h ≤ length labels
   pub linked : w * h ≤ length links
   pub own : Averaged table k
-  pub few : get_or table (slot_width * k + pixel_count_place) 0 ≤ w * h
-  pub readable : T
-      (reads (w * h) links (get_or table (slot_width * k + first_pixel_place) 0)
-      (get_or table (slot_width * k + pixel_count_place) 0))
+  pub few : (list_in table k).count ≤ w * h
+  pub readable : Readable (w * h) links (list_in table k)
   pub notable : (p : ℕ) → p < w * h → get_or labels p 0 ≢ 0 → Notable table (length marks) (get_or labels p 0)
   pub earlier : (j : ℕ) → get_or marks j 0 < visit
 
 -- the list of cluster k, along the links
 abbrev pub list_at : List ℕ → List ℕ → ℕ → List ℕ
-list_at links table k = walk (λ p. get_or links p 0) (get_or table (slot_width * k + first_pixel_place) 0)
-    (get_or table (slot_width * k + pixel_count_place) 0)
+list_at links table k = pixels links (list_in table k)
 
 -- What the scan finds: of the rules' list of neighbours their number, the target and its difference. No mark is of a
 -- later visit.

@@ -3,13 +3,14 @@
 use Rattle.std.specs.Prelude.{◌≡◌, List, ℕ, ◌+◌, ◌-◌, ◌*◌, ◌≤◌, ◌<◌, eqb, length, get_or, set, if◌then◌else◌}
 use Rattle.rules.specs.Color.{Color, sum_of_one, ◌⊕◌}
 use Rattle.rules.specs.State.{Cluster, new_cluster, with_pixel, with_cluster, pixel_rect, relabel}
-use Rattle.rules.specs.Layout.{walk, slot_width, merged_into_place, depth_place, num_holes_place, first_hole_place}
+use Rattle.rules.specs.Layout.{slot_width, merged_into_place, depth_place, num_holes_place, first_hole_place}
 use Rattle.rules.specs.Layout.{next_hole_place}
 use Rattle.rules.specs.Code.Bounds.{count_bound}
 use Rattle.color.specs.Colors.{sum_of}
 use Rattle.color.specs.declared.ColorSum.{ColorSum}
-use Rattle.runner.specs.Code.Slots.{Adds, head_at, head_of, saved_head, residue_at, saved_residue}
+use Rattle.runner.specs.Code.Slots.{Adds, head_at, list_of, head_of, saved_head, residue_at, saved_residue}
 use Rattle.runner.specs.Code.Rep.{link_after}
+use Rattle.runner.specs.Code.Pixels.{pixels}
 use Rattle.runner.specs.Code.Labelling.{CanRelabel}
 
 -- slot k can be read and written, and a pixel can be linked after its list
@@ -38,12 +39,12 @@ pub record Added (k i x y : ℕ) (c : Color) (L K B E L' K' B' E' : List ℕ) : 
 pub record CanAppend (f t : ℕ) (L K B E : List ℕ) : Type 0 where
   pub from : Open f K B E
   pub to : Open t K B E
-  pub list : CanRelabel L K (head_at B f).first (head_at B f).count
+  pub list : CanRelabel L K (list_of (head_at B f))
   pub sum : Adds (sum_of (head_at B t).sum) (sum_of (head_at B f).sum)
 
 -- the list, sum and rectangle of f are added to t's; f is as it was
 pub record Appended (f t : ℕ) (L K B E L' K' B' E' : List ℕ) : Type 0 where
-  pub labels : L' ≡ relabel t (walk (λ p. get_or K p 0) (head_at B f).first (head_at B f).count) L
+  pub labels : L' ≡ relabel t (pixels K (list_of (head_at B f))) L
   pub links : K' ≡ link_after K (head_at B t).count (get_or E t 0) (head_at B f).first
   pub table : (a b : Cluster) → head_at B t ≡ head_of a → head_at B f ≡ head_of b → B'
       ≡ saved_head B t (head_of (with_cluster b a))
@@ -51,7 +52,7 @@ pub record Appended (f t : ℕ) (L K B E L' K' B' E' : List ℕ) : Type 0 where
 
 -- and the list, sum and rectangle of f become zero
 pub record Combined (f t : ℕ) (L K B E L' K' B' E' : List ℕ) : Type 0 where
-  pub labels : L' ≡ relabel t (walk (λ p. get_or K p 0) (head_at B f).first (head_at B f).count) L
+  pub labels : L' ≡ relabel t (pixels K (list_of (head_at B f))) L
   pub links : K' ≡ link_after K (head_at B t).count (get_or E t 0) (head_at B f).first
   pub table : (a b : Cluster) → head_at B t ≡ head_of a → head_at B f ≡ head_of b → B'
       ≡ saved_head (saved_head B t (head_of (with_cluster b a))) f (head_of new_cluster)
@@ -75,7 +76,7 @@ pub record CanDeepen (f t : ℕ) (L K B E : List ℕ) : Type 0 where
 
 -- as Appended, then merged_into of f and the depth of t
 pub record Deepened (f t : ℕ) (L K B E L' K' B' E' : List ℕ) : Type 0 where
-  pub labels : L' ≡ relabel t (walk (λ p. get_or K p 0) (head_at B f).first (head_at B f).count) L
+  pub labels : L' ≡ relabel t (pixels K (list_of (head_at B f))) L
   pub links : K' ≡ link_after K (head_at B t).count (get_or E t 0) (head_at B f).first
   pub table : (a b : Cluster) → head_at B t ≡ head_of a → head_at B f ≡ head_of b
       → B'

@@ -7,6 +7,7 @@ use Rattle.rules.specs.Layout.{right_place}
 use Rattle.rules.specs.Layout.{bottom_place, sum_place, sum_count_place, residue_place}
 use Rattle.rules.specs.Refusals.{largest_total}
 use Rattle.color.specs.declared.ColorSum as declared
+use Rattle.image.specs.declared.PixelList.{PixelList}
 use Rattle.runner.specs.declared.slot.Head.{Head}
 
 -- two sums whose totals fit 32 bits
@@ -25,6 +26,13 @@ sum_at table k = record {
   b = get_or table (slot_width * k + (sum_place + 2)) 0;
   a = get_or table (slot_width * k + (sum_place + 3)) 0;
   count = get_or table (slot_width * k + sum_count_place) 0;
+}
+
+-- the list of slot k
+abbrev pub list_in : List ℕ → ℕ → PixelList
+list_in table k = record {
+  first = get_or table (slot_width * k + first_pixel_place) 0;
+  count = get_or table (slot_width * k + pixel_count_place) 0;
 }
 
 -- numbers written one after another, from index base + j on
@@ -51,6 +59,10 @@ head_at table k = record {
     counter = get_or table (slot_width * k + sum_count_place) 0;
   };
 }
+
+-- the list of a head
+abbrev pub list_of : Head → PixelList
+list_of s = record { first = s.first; count = s.count }
 
 -- a head as eleven numbers
 abbrev pub head_numbers : Head → List ℕ

@@ -2,6 +2,7 @@
 use Rattle.std.specs.Prelude.{◌≡◌, Bool, true, ◌&&◌, ◌||◌, List, ltb, leb, eqb, ℕ, ◌+◌, ◌*◌, ◌≤◌, ◌<◌, max}
 use Rattle.std.specs.Prelude.{length, get_or, set, if◌then◌else◌}
 use Rattle.std.proofs.Math.Option.{some}
+use Rattle.image.specs.declared.PixelList.{PixelList}
 use Rattle.rules.specs.Color.{RunnerConfig, hierarchical_max, exceeds, discards}
 use Rattle.rules.specs.State.{State, cluster, area}
 use Rattle.rules.specs.Layout.{walk, links, slot_width, pixel_count_place}
@@ -16,6 +17,7 @@ use Rattle.runner.specs.Code.Slots.{head_at, saved_residue}
 use Rattle.runner.specs.Code.Rep.{Table, Rep, HoleEnds, slots_of}
 use Rattle.runner.specs.Code.Queue.{Tree, KeySet, Keyed, queue_key}
 use Rattle.runner.specs.Code.Neighbours.{nearest_of}
+use Rattle.runner.specs.Code.Pixels.{pixels}
 use Rattle.runner.specs.Code.Interior.{some_inside}
 
 -- Labels L, links K, table B, ends E, ends of the hole lists H, queue Q, marks M and staged outputs S hold state s with
@@ -49,17 +51,17 @@ pub record Prepared (n : ℕ) (B Q B' Q' : List ℕ) (r : ℕ) : Type 0 where
   pub largest : (s : State) (t₀ : List ℕ) → n ≡ length s.clusters → slot_width * n ≤ length t₀
       → Table n (slots_of s) t₀ B → r ≡ order.largest s.clusters
 
--- whether cluster k, of `area` pixels from first, may stay a patch
-unfoldable pub patch_good_at : RunnerConfig → List ℕ → List ℕ → List ℕ → ℕ → ℕ → ℕ → ℕ → ℕ → Bool
-patch_good_at o image labels links w h k first area =
-    ltb o.good_min_area area && ltb area o.good_max_area
-    && (eqb o.good_min_area 0 || some_inside o image labels w h k (walk (λ p. get_or links p 0) first area))
+-- whether cluster k, of this list, may stay a patch
+unfoldable pub patch_good_at : RunnerConfig → List ℕ → List ℕ → List ℕ → ℕ → ℕ → ℕ → PixelList → Bool
+patch_good_at o image labels links w h k list =
+    ltb o.good_min_area list.count && ltb list.count o.good_max_area
+    && (eqb o.good_min_area 0 || some_inside o image labels w h k (pixels links list))
 
 -- whether it deepens into a neighbour of difference d
-unfoldable pub deepens_at : RunnerConfig → List ℕ → List ℕ → List ℕ → ℕ → ℕ → ℕ → ℕ → ℕ → ℕ → Bool
+unfoldable pub deepens_at : RunnerConfig → List ℕ → List ℕ → List ℕ → ℕ → ℕ → ℕ → PixelList → ℕ → Bool
 unfolding patch_good_at
-deepens_at o image labels links w h k first area d =
-    eqb o.hierarchical hierarchical_max && patch_good_at o image labels links w h k first area
+deepens_at o image labels links w h k list d =
+    eqb o.hierarchical hierarchical_max && patch_good_at o image labels links w h k list
     && exceeds d o.deepen_diff
 
 -- ---- one output, one key
