@@ -10,6 +10,8 @@ ghost use Rattle.runner.specs.Code.Ops.{CanAdd, Added, CanAppend, Appended, Comb
 ghost use Rattle.runner.specs.Code.Ops.{CanDeepen, Deepened, CanHollow, hole_link, Hollowed};
 ghost use Rattle.runner.specs.Code.Lists.{of_lists, SameLists};
 
+use super::input::Pixel;
+use super::slot::Head;
 use super::{labelling, slot};
 use color::Color;
 use image::layout;
@@ -49,10 +51,10 @@ fn link_hole(table: &mut [u32], holes: u32, tail: u32, f: u32, t: u32)
     ensures { table.new ≡ set table.old (hole_link holes tail t) (f + 1) }
 {
     if holes == 0 {
-        table[layout::SLOT_WIDTH * (t as usize) + layout::FIRST_HOLE] = f + 1;
+        slot::set_number(table, t, layout::FIRST_HOLE, f + 1);
         return;
     }
-    table[layout::SLOT_WIDTH * ((tail - 1) as usize) + layout::NEXT_HOLE] = f + 1;
+    slot::set_number(table, tail - 1, layout::NEXT_HOLE, f + 1);
 }
 
 // f is appended to the hole children of t, of which `ends` holds for each slot the last, plus one.
@@ -60,11 +62,10 @@ pub(crate) fn append_hole(table: &mut [u32], ends: &mut [u32], f: u32, t: u32)
     requires { CanHollow f t table.old ends.old }
     ensures { Hollowed f t table.old ends.old table.new ends.new }
 {
-    let b = layout::SLOT_WIDTH * (t as usize);
-    let holes = table[b + layout::NUM_HOLES];
+    let holes = slot::numbers(table, t)[layout::NUM_HOLES];
     let tail = ends[t as usize];
     ends[t as usize] = f + 1;
-    table[b + layout::NUM_HOLES] = holes + 1;
+    slot::set_number(table, t, layout::NUM_HOLES, holes + 1);
     link_hole(table, holes, tail, f, t);
 }
 
@@ -83,24 +84,24 @@ impl<'a> Builder<'a> {
         requires { InTable k self.now.table.now }
         ensures { result ≡ get_or self.now.table.now (slot_width * k + pixel_count_place) 0 }
     {
-        slot::count_of(self.table, k)
+        slot::numbers(self.table, k)[layout::PIXEL_COUNT]
     }
 
-    // Pixel i, of colour c at column x and row y, is added to cluster k.
-    pub(crate) fn add(&mut self, k: u32, i: u32, x: u32, y: u32, c: Color)
-        requires { of_lists (CanAdd k i x y (color_of c)) self.old }
+    // A pixel of colour c is added to cluster k.
+    pub(crate) fn add(&mut self, k: u32, at: Pixel, c: Color)
+        requires { of_lists (CanAdd k at.i at.x at.y (color_of c)) self.old }
         ensures loans { SameLists self.old self.new }
-        ensures added { of_lists (of_lists (Added k i x y (color_of c)) self.old) self.new }
+        ensures added { of_lists (of_lists (Added k at.i at.x at.y (color_of c)) self.old) self.new }
     {
         let labels = &mut *self.labels;
         let links = &mut *self.links;
         let table = &mut *self.table;
         let ends = &mut *self.ends;
         let s = slot::load_head(table, k);
-        link_after(links, s.count, ends[k as usize], i + 1);
-        labels[i as usize] = k;
-        ends[k as usize] = i + 1;
-        slot::save_head(table, k, s.with_pixel(i, x, y, c));
+        link_after(links, s.count, ends[k as usize], at.i + 1);
+        labels[at.i as usize] = k;
+        ends[k as usize] = at.i + 1;
+        slot::save_head(table, k, s.with_pixel(at, c));
     }
 
     // The list, sum and rectangle of f are added to t's, and its pixels are relabelled: first, so that nothing but the
@@ -124,6 +125,7 @@ impl<'a> Builder<'a> {
     }
 
     // A merge of stage 1: f goes into t.
+    #[tactic(auto, unfolding(rules::specs::Layout::first_of))]
     pub(crate) fn combine_clusters(&mut self, f: u32, t: u32)
         requires { of_lists (CanAppend f t) self.old }
         ensures loans { SameLists self.old self.new }
@@ -131,7 +133,7 @@ impl<'a> Builder<'a> {
     {
         self.combine_clusters_clone(f, t);
         let table = &mut *self.table;
-        slot::save_head(table, f, slot::load_head(table, f).cleared());
+        slot::save_head(table, f, Head::default());
     }
 
     // A plain merge of stage 2: f's residue is added to t's too.
@@ -152,9 +154,10 @@ impl<'a> Builder<'a> {
         ensures loans { SameLists self.old self.new }
         ensures deepened { of_lists (of_lists (Deepened f t) self.old) self.new }
     {
-        let depth = self.table[layout::SLOT_WIDTH * (t as usize) + layout::DEPTH];
+        let table = &mut *self.table;
+        let depth = slot::numbers(table, t)[layout::DEPTH];
         self.combine_clusters_clone(f, t);
-        self.table[layout::SLOT_WIDTH * (f as usize) + layout::MERGED_INTO] = t;
-        self.table[layout::SLOT_WIDTH * (t as usize) + layout::DEPTH] = depth + 1;
+        slot::set_number(self.table, f, layout::MERGED_INTO, t);
+        slot::set_number(self.table, t, layout::DEPTH, depth + 1);
     }
 }

@@ -14,12 +14,12 @@ use color::Color;
 use image::layout;
 
 // The average of the sum of cluster k.
-#[tactic(auto, using(color::proofs::Averages::has_one, color::proofs::Five::five_read))]
+#[tactic(auto, using(color::proofs::Averages::has_one))]
 pub(crate) fn color(table: &[u32], k: u32) -> Color
     requires { Averaged table.now k }
     ensures { color_of result ≡ average (sum_at table.now k) }
 {
-    color::sum_in(table, layout::SLOT_WIDTH * (k as usize) + layout::SUM_R)
+    color::sum_in(slot::numbers(table, k), layout::SUM_R)
         .average()
         .unwrap()
 }

@@ -5,6 +5,7 @@ ghost use Rattle.rules.specs.Layout.{InTable};
 ghost use Rattle.runner.specs.Code.Outputs.{Kept, counted};
 
 use super::builder::Builder;
+use super::slot;
 use image::layout;
 
 // Entry k is kept as number `kept` of the outputs if its sum counts something; answers how many are kept now.
@@ -12,7 +13,7 @@ fn keep_entry(table: &[u32], outputs: &mut [u32], k: u32, kept: u32) -> u32
     requires { (InTable k table.now) × (kept < length outputs.old) × (kept < 4294967295) }
     ensures { Kept table.now k kept outputs.old outputs.new result }
 {
-    if 0 < table[layout::SLOT_WIDTH * (k as usize) + layout::SUM_COUNT] {
+    if 0 < slot::numbers(table, k)[layout::SUM_COUNT] {
         outputs[kept as usize] = k;
         return kept + 1;
     }

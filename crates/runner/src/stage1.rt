@@ -194,8 +194,7 @@ fn place(b: &mut Builder, p: Seen, v: Sides) -> Slots
         return v.slots;
     };
     let t = slot_for(b.table, to, v);
-    let at = p.here.at;
-    b.add(t.slot, at.i, at.x, at.y, p.own);
+    b.add(t.slot, p.here.at, p.own);
     t.slots
 }
 

@@ -17,10 +17,10 @@ pub returns : goal.returns
 unfolding with_pixel first_of
 returns c = λ k e.
     let a = c.args in
-    let at = pixel_rect a.x a.y in
-    head_is (with_pixel a.i (color_of a.c) at k)
-    (c.first_of.ensures k.pixels (a.i ∷ []) (ap (λ (h : Head). h.count) e) (ap (λ (h : Head). h.first) e) (add-one a.i))
-    (ap (λ (h : Head). h.count + 1) e ∙ sym (length-append k.pixels (a.i ∷ [])))
+    let at = pixel_rect a.at.x a.at.y in
+    head_is (with_pixel a.at.i (color_of a.c) at k)
+    (c.first_of.ensures k.pixels (a.at.i ∷ []) (ap (λ (h : Head). h.count) e) (ap (λ (h : Head). h.first) e) (add-one a.at.i))
+    (ap (λ (h : Head). h.count + 1) e ∙ sym (length-append k.pixels (a.at.i ∷ [])))
     (c.add_x_y.ensures ∙ ap (λ (h : Head). merge_rect (rect_of h.rect) at) e)
     (c.plus.ensures ∙ ap (sum_call (sum_of a.self.sum)) c.from.ensures ∙ adds-taken c.requires.4
     ∙ ap (λ (h : Head). sum_of h.sum ⊕ sum_of_one (color_of a.c)) e)
