@@ -1,7 +1,6 @@
 // Stage 1, the label of each pixel, after `stage_1` of builder.rs.
-ghost use Rattle.std.specs.Prelude.{◌≡◌, ◌&&◌, List, ℕ, suc, ◌+◌, ◌-◌, ◌*◌, ◌/◌, ◌%◌, ◌≤◌, ◌<◌, eqb, ltb, length};
+ghost use Rattle.std.specs.Prelude.{◌≡◌, ◌&&◌, List, ℕ, suc, ◌+◌, ◌-◌, ◌*◌, ◌≤◌, ◌<◌, eqb, ltb, length};
 ghost use Rattle.std.specs.Prelude.{if◌then◌else◌};
-ghost use Rattle.std.proofs.Math.Option.{Option};
 ghost use Rattle.rules.specs.Grid as grid;
 ghost use Rattle.rules.specs.Color.{RunnerConfig as Config};
 ghost use Rattle.rules.specs.State.{State};
@@ -9,11 +8,9 @@ ghost use Rattle.rules.specs.Stage1 as rules;
 ghost use Rattle.rules.specs.Run as run;
 ghost use Rattle.rules.specs.Layout.{InTable};
 ghost use Rattle.rules.specs.Code.Bounds.{count_bound};
-ghost use Rattle.color.specs.Colors.{option_of};
 ghost use Rattle.runner.specs.Types.{config_of};
 ghost use Rattle.runner.specs.Code.Spans.{LimitsOf};
-ghost use Rattle.runner.specs.Code.Stage1.{SeenAt, Holding, meets, joined, goes_into};
-ghost use Rattle.runner.specs.Code.Stage1.{Opened};
+ghost use Rattle.runner.specs.Code.Stage1.{SeenAt, Holding, meets, joined, goes_into, Opened};
 ghost use Rattle.runner.specs.Code.Stage1.{Placing, Meeting, Sided, Taking, Blank};
 ghost use Rattle.runner.specs.Code.Lists.{of_lists, of_here, SameLists};
 
