@@ -14,7 +14,7 @@ use lib.Dec.{ltb}
 use lib.ListN.{length, get_or}
 use Rattle.rules.specs.Color.{Color, RunnerConfig, pixel, pixel_at}
 use Rattle.rules.specs.Grid.{up, left, up_left}
-use Rattle.rules.specs.State.{State, label}
+use Rattle.rules.specs.State.{State}
 use Rattle.rules.specs.Stage1.{color_at, label_at}
 use Rattle.rules.proofs.Pixels.{pixel-at}
 use Rattle.rules.specs.Code.Bounds.{count_bound}

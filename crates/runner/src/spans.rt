@@ -1,5 +1,5 @@
 // Spans of stage 1: pixels of a row that go into the cluster of the pixel before them, found and then added at once.
-ghost use Rattle.std.specs.Prelude.{◌≡◌, true, false, ℕ, ◌+◌, ◌*◌, ◌/◌, ◌≤◌, ◌<◌, pos, length, get_or};
+ghost use Rattle.std.specs.Prelude.{◌≡◌, true, false, ℕ, ◌+◌, ◌-◌, ◌*◌, ◌/◌, ◌≤◌, ◌<◌, pos, length, get_or};
 ghost use Rattle.rules.specs.Base.{apart};
 ghost use Rattle.rules.specs.Stage1.{is_key};
 ghost use Rattle.rules.specs.Code.Spans.{sum_from, Extends, AllExtend};
@@ -93,23 +93,6 @@ fn far(x: u8, y: u8, limit: u8) -> u8
     u8::from(limit < color::distance(x, y))
 }
 
-// How many bytes of the four pixels from a on, shifted, are further than their limit from those of the four from b on,
-// and from those of the four from b - 1 on. They are counted, without a branch, so that the compiler takes all at once.
-fn four_far(image: &[u8], a: u32, b: u32, shift: u32, limits: &[u8; 16]) -> u8
-    requires { (4 * a + 16 ≤ length image.now) × (1 ≤ b) × (b ≤ a) × (shift < 8) }
-    ensures { result ≡ 0 → ManyNear shift limits.now image.now a b 16 }
-{
-    let p = 4 * (a as usize);
-    let q = 4 * (b as usize);
-    let mut n: u8 = 0;
-    for j in 0..16 {
-        let x = image[p + j] >> shift;
-        let d = limits[j];
-        n += far(x, image[q + j] >> shift, d) + far(x, image[q + j - 4] >> shift, d);
-    }
-    n
-}
-
 // The tests of pixels that may extend cluster k: what they read, and the limits of the settings.
 #[derive(Clone, Copy)]
 struct Reach<'a> {
@@ -130,18 +113,11 @@ impl<'a> Reach<'a> {
             result ≡ true → Extends (config_of p.o) p.w p.image.now s.labels.now s.k i }
     {
         let input = self.input;
-        if self.labels[(i - input.w) as usize] != self.k {
-            return false;
-        }
         let c = Some(input.color_at(i));
-        let up = Some(input.color_at(i - input.w));
-        if input.is_same(c, up) {
-            let up_left = Some(input.color_at(i - input.w - 1));
-            if input.is_same(c, up_left) {
-                return !input.is_key(i);
-            }
-        }
-        false
+        self.labels[(i - input.w) as usize] == self.k
+            && input.is_same(c, Some(input.color_at(i - input.w)))
+            && input.is_same(c, Some(input.color_at(i - input.w - 1)))
+            && !input.is_key(i)
     }
 
     // Whether the four labels from i on are the cluster's.
@@ -163,6 +139,31 @@ impl<'a> Reach<'a> {
         (0..4).all(|j: u32| !self.input.is_key(i + j))
     }
 
+    // How many bytes of the four pixels from i on, behind the first column and the first row, are further than their limit
+    // from those of the four above, and from those of the four up and left. They are counted, without a branch, so that
+    // the compiler takes all at once.
+    fn four_far(self, i: u32) -> u8
+        requires { (self.input.now.w + 1 ≤ i) × (i + 4 ≤ self.input.now.w * self.input.now.h) }
+        ensures { let s = self.entry in let p = s.input.now in
+            result ≡ 0 → ManyNear p.shift s.limits.now p.image.now i (i - p.w) 16 }
+    {
+        let Input {
+            image,
+            shift,
+            w,
+            ..
+        } = *self.input;
+        let p = 4 * (i as usize);
+        let q = 4 * ((i - w) as usize);
+        let mut n: u8 = 0;
+        for j in 0..16 {
+            let x = image[p + j] >> shift;
+            let d = self.limits[j];
+            n += far(x, image[q + j] >> shift, d) + far(x, image[q + j - 4] >> shift, d);
+        }
+        n
+    }
+
     // Whether the four pixels from i on, behind the first column and the first row, extend it.
     fn four_extend(self, i: u32) -> bool
         requires { (self.input.now.w + 1 ≤ i) × (i + 4 ≤ self.input.now.w * self.input.now.h) }
@@ -170,14 +171,10 @@ impl<'a> Reach<'a> {
             result ≡ true → (t : ℕ) → p.o.is_same_color_b ≡ pos t
             → AllExtend (config_of p.o) p.w p.image.now s.labels.now s.k i 4 }
     {
-        let input = self.input;
-        if !self.four_in_cluster(i - input.w) {
-            return false;
+        if self.four_in_cluster(i - self.input.w) && self.four_far(i) == 0 {
+            return self.four_free(i);
         }
-        if four_far(input.image, i, i - input.w, input.shift, self.limits) != 0 {
-            return false;
-        }
-        self.four_free(i)
+        false
     }
 
     // How many pixels from i on, of `room`, extend it, as far as they do so by fours.

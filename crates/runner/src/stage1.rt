@@ -1,7 +1,6 @@
 // Stage 1, the label of each pixel, after `stage_1` of builder.rs.
-ghost use Rattle.std.specs.Prelude.{◌≡◌, ◌&&◌, List, ℕ, suc, ◌+◌, ◌-◌, ◌*◌, ◌/◌, ◌%◌, ◌≤◌, ◌<◌, eqb, ltb, length};
+ghost use Rattle.std.specs.Prelude.{◌≡◌, ◌&&◌, List, ℕ, suc, ◌+◌, ◌-◌, ◌*◌, ◌≤◌, ◌<◌, eqb, ltb, length};
 ghost use Rattle.std.specs.Prelude.{if◌then◌else◌};
-ghost use Rattle.std.proofs.Math.Option.{Option};
 ghost use Rattle.rules.specs.Grid as grid;
 ghost use Rattle.rules.specs.Color.{RunnerConfig as Config};
 ghost use Rattle.rules.specs.State.{State};
@@ -9,11 +8,9 @@ ghost use Rattle.rules.specs.Stage1 as rules;
 ghost use Rattle.rules.specs.Run as run;
 ghost use Rattle.rules.specs.Layout.{InTable};
 ghost use Rattle.rules.specs.Code.Bounds.{count_bound};
-ghost use Rattle.color.specs.Colors.{option_of};
 ghost use Rattle.runner.specs.Types.{config_of};
 ghost use Rattle.runner.specs.Code.Spans.{LimitsOf};
-ghost use Rattle.runner.specs.Code.Stage1.{SeenAt, Holding, meets, joined, goes_into};
-ghost use Rattle.runner.specs.Code.Stage1.{Opened};
+ghost use Rattle.runner.specs.Code.Stage1.{SeenAt, Holding, meets, joined, goes_into, Opened};
 ghost use Rattle.runner.specs.Code.Stage1.{Placing, Meeting, Sided, Taking, Blank};
 ghost use Rattle.runner.specs.Code.Lists.{of_lists, of_here, SameLists};
 
@@ -39,6 +36,36 @@ struct Seen<'a> {
 pub(crate) struct Slots {
     pub(crate) next_index: u32,
     pub(crate) count: u32,
+}
+
+impl Slots {
+    // Slot next is taken: next rises by one, and so does the number of slots where the slot is new.
+    fn taken(self) -> Slots
+        requires { self.next_index < count_bound }
+        ensures { (result.next_index ≡ self.next_index + 1)
+            × (result.count ≡ (if ltb self.next_index self.count then self.count else self.next_index + 1)) }
+    {
+        let next_index = self.next_index + 1;
+        Slots {
+            next_index,
+            count: self.count.max(next_index),
+        }
+    }
+
+    // Next falls by one where l was the number just below it and next equals the slot count.
+    fn lowered(self, l: u32) -> Slots
+        requires { l < count_bound }
+        ensures { (result.next_index ≡ (if eqb (l + 1) self.next_index && eqb self.next_index self.count
+            then self.next_index - 1 else self.next_index)) × (result.count ≡ self.count) }
+    {
+        if l + 1 == self.next_index && self.next_index == self.count {
+            return Slots {
+                next_index: l,
+                ..self
+            };
+        }
+        self
+    }
 }
 
 // The labels of left and up as steps 2 to 5 read them.
@@ -88,17 +115,12 @@ impl<'a> Seen<'a> {
         ensures { let s = self.entry.here in let p = s.input.now in
             result ≡ meets (config_of p.o) p.w p.image.now s.at.i l u }
     {
-        if l == u {
-            return false;
-        }
         let input = self.here.input;
         let c = Some(self.own);
-        if input.is_same(self.left, self.up) {
-            if input.is_same(c, self.left) {
-                return input.is_same(c, self.up);
-            }
-        }
-        false
+        l != u
+            && input.is_same(self.left, self.up)
+            && input.is_same(c, self.left)
+            && input.is_same(c, self.up)
     }
 
     // Steps 3 to 5: which cluster the pixel joins.
@@ -136,25 +158,6 @@ impl<'a> Seen<'a> {
     }
 }
 
-// Slot next is taken: next rises by one, and so does the number of slots where the slot is new.
-fn slot_taken(s: Slots) -> Slots
-    requires { s.next_index < count_bound }
-    ensures { (result.next_index ≡ s.next_index + 1)
-        × (result.count ≡ (if ltb s.next_index s.count then s.count else s.next_index + 1)) }
-{
-    let k = s.next_index;
-    if k < s.count {
-        return Slots {
-            next_index: k + 1,
-            count: s.count,
-        };
-    }
-    Slots {
-        next_index: k + 1,
-        count: k + 1,
-    }
-}
-
 // The slot for a pixel; a fresh one is cleared.
 fn slot_for(table: &mut [u32], to: Into, v: Sides) -> Target
     requires { (InTable v.slots.next_index table.old) × (v.slots.next_index < count_bound) }
@@ -173,7 +176,7 @@ fn slot_for(table: &mut [u32], to: Into, v: Sides) -> Target
             slot::clear_slot(table, slots.next_index);
             Target {
                 slot: slots.next_index,
-                slots: slot_taken(slots),
+                slots: slots.taken(),
             }
         }
     }
@@ -198,24 +201,6 @@ fn place(b: &mut Builder, p: Seen, v: Sides) -> Slots
     t.slots
 }
 
-// Next falls by one where l was the number just below it and next equals the slot count.
-fn lower_next(s: Slots, l: u32) -> Slots
-    requires { l < count_bound }
-    ensures { (result.next_index
-        ≡ (if eqb (l + 1) s.next_index
-        && eqb s.next_index s.count then s.next_index - 1 else s.next_index)) × (result.count ≡ s.count) }
-{
-    if l + 1 == s.next_index {
-        if s.next_index == s.count {
-            return Slots {
-                next_index: l,
-                count: s.count,
-            };
-        }
-    }
-    s
-}
-
 // Step 1, the merge: the smaller cluster goes into the larger, left into up on equal counts. Both sides then have the
 // survivor's number.
 #[tactic(auto, using(crate::proofs::Stage1Steps::sides))]
@@ -234,7 +219,7 @@ fn combine_sides(b: &mut Builder, l: u32, u: u32, s: Slots) -> Sides
         return Sides {
             left: u,
             up: u,
-            slots: lower_next(s, l),
+            slots: s.lowered(l),
         };
     }
     b.combine_clusters(u, l);
