@@ -20,7 +20,7 @@ use Rattle.rules.proofs.Accepted.{passed, neither}
 use Rattle.refusal.specs.Refusal.{number_of}
 use Rattle.refusal.specs.declared.Refusal.{Refusal}
 use Rattle.refusal.proofs.Laws.{refused_number}
-use Rattle.container.specs.declared.paint.Stretch.{Stretch}
+use Rattle.image.specs.declared.PixelList.{PixelList}
 use Rattle.container.specs.declared.checked.Sheet.{Sheet}
 use Rattle.container.specs.Code.Checked as of_sheet
 use Rattle.container.specs.Code.Checked.{Passed, EntriesPass}
@@ -132,7 +132,7 @@ pub record Middle (size : ℕ) (links table entries : List ℕ) (mid : ℕ) : Ty
   pub leads : 0 < length entries → (let k = get_or entries (length entries - 1) 0 in Leads size links (slot_number table k first_pixel_place) (slot_number table k pixel_count_place / 2) mid)
 
 -- its first half leads there
-pub half-leads : (size : ℕ) (links table entries : List ℕ) (half : Stretch) (mid : ℕ) → FirstHalf table entries half → Leads size links half.first half.count mid → Middle size links table entries mid
+pub half-leads : (size : ℕ) (links table entries : List ℕ) (half : PixelList) (mid : ℕ) → FirstHalf table entries half → Leads size links half.first half.count mid → Middle size links table entries mid
 half-leads size links table entries half mid f e = record { leads = λ l. rw (f.first l, f.count l) at e }
 
 -- painting goes from last to first

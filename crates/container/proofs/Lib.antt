@@ -6,3 +6,4 @@ pub mod Covered
 pub mod Pictures
 pub mod Stretches
 pub mod Accepted
+pub mod Slots

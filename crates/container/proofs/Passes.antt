@@ -15,30 +15,30 @@ use Rattle.rules.proofs.Facts.{is_true}
 use Rattle.rules.specs.Layout.{first_pixel_place, pixel_count_place}
 use Rattle.container.specs.Code.Quick.{NumbersPass, ListPasses, LanePasses, LanesPass}
 use Rattle.container.specs.Code.Leads.{Leads}
-use Rattle.container.specs.declared.quick.Lane.{Lane}
+use Rattle.image.specs.declared.PixelList.{PixelList}
 use Rattle.container.specs.declared.quick.Lanes.{Lanes}
 use Rattle.container.proofs.Leads.{leads-reads}
 
 -- a lane with no pixel takes the entry before place n
-pub lane-takes : (table outputs : List ℕ) (x y : Lane) (at n : ℕ) → LanePasses table outputs x (record { at = at; count = 0; left = n }) → 0 < n → y.left ≡ n - 1
-    → ((size : ℕ) (links : List ℕ) → T (reads size links y.at y.count) → ListPasses size links table (get_or outputs (n - 1) 0)) → LanePasses table outputs x y
-lane-takes table outputs x y at n h l e f = record {
+pub lane-takes : (table outputs : List ℕ) (x y : PixelList) (first before n left : ℕ) → LanePasses table outputs x before (record { first = first; count = 0 }) n → 0 < n → left ≡ n - 1
+    → ((size : ℕ) (links : List ℕ) → T (reads size links y.first y.count) → ListPasses size links table (get_or outputs (n - 1) 0)) → LanePasses table outputs x before y left
+lane-takes table outputs x y first before n left h l e f = record {
   rest = λ size links r. h.rest size links tt;
   taken = λ size links r m p i b k. elim (ℕ_discrete i (n - 1)) [ yes z ↦ rw z (f size links r) | no d ↦ h.taken size links tt m p i (omega arith) k ];
 }
 
 -- and so it does where that has none either
-pub lane-passes : (table outputs : List ℕ) (x : Lane) → LanePasses table outputs x x
-lane-passes table outputs x = record { rest = λ size links r. r; taken = λ size links r m p. p }
+pub lane-passes : (table outputs : List ℕ) (x : PixelList) (left : ℕ) → LanePasses table outputs x left x left
+lane-passes table outputs x left = record { rest = λ size links r. r; taken = λ size links r m p. p }
 
 -- a lane is filled
 pub ruleset takes = (lane-takes, lane-passes)
 
 -- lane i is filled
-pub filled-turn : (size : ℕ) (links table outputs : List ℕ) (m i : ℕ) (x : Lanes) (y : Lane) → length x.at ≡ 4 → length x.count ≡ 4 → i < 4
-    → LanePasses table outputs (record { at = get_or x.at i 0; count = get_or x.count i 0; left = x.left }) y
-    → LanesPass size links table outputs m x → LanesPass size links table outputs m (record { at = set x.at i y.at; count = set x.count i y.count; left = y.left })
-filled-turn size links table outputs m i x y e f l h p = record {
+pub filled-turn : (size : ℕ) (links table outputs : List ℕ) (m i : ℕ) (x : Lanes) (y : PixelList) (left : ℕ) → length x.at ≡ 4 → length x.count ≡ 4 → i < 4
+    → LanePasses table outputs (record { first = get_or x.at i 0; count = get_or x.count i 0 }) x.left y left
+    → LanesPass size links table outputs m x → LanesPass size links table outputs m (record { at = set x.at i y.first; count = set x.count i y.count; left = left })
+filled-turn size links table outputs m i x y left e f l h p = record {
   taken = λ r.
       let a : i < length x.at = omega arith in
       let b : i < length x.count = omega arith in

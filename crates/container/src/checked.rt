@@ -1,6 +1,6 @@
 // The sheet that is painted: clusters whose size, buffers and counts have passed the checks that come before the
 // entries.
-ghost use Rattle.std.specs.Prelude.{◌≡◌, ◌*◌, ◌≤◌, ◌<◌, length, IfOk};
+ghost use Rattle.std.specs.Prelude.{◌≡◌, ℕ, ◌*◌, ◌≤◌, ◌<◌, length, get_or, IfOk};
 ghost use Rattle.rules.specs.Refusals.{limit, paint_answer};
 ghost use Rattle.rules.specs.Layout.{slot_width};
 ghost use Rattle.rules.specs.Paint.{slot_number};
@@ -47,13 +47,14 @@ impl<'a> Sheet<'a> {
         })
     }
 
-    // The number at a place of slot k.
-    #[tactic(auto, unfolding(rules::specs::Paint::slot_number))]
-    pub(crate) fn slot_number(self, k: u32, place: usize) -> u32
-        requires slot { k < self.n }
-        requires place { place < slot_width }
-        ensures { result ≡ slot_number self.entry.table.now k place }
+    // The numbers of slot k.
+    #[tactic(auto, using(crate::proofs::Slots::in_slot))]
+    pub(crate) fn slot(self, k: u32) -> &'a [u32; layout::SLOT_WIDTH]
+        requires { k < self.n }
+        ensures { (place : ℕ) → place < slot_width
+            → get_or result.now place 0 ≡ slot_number self.entry.table.now k place }
     {
-        self.table[layout::SLOT_WIDTH * k as usize + place]
+        let (slots, _) = self.table.as_chunks();
+        &slots[k as usize]
     }
 }

@@ -8,14 +8,7 @@ ghost use Rattle.container.specs.Code.Stretch.{paint_along};
 
 use crate::checked::Sheet;
 use color::Color;
-
-// Where three walks along the links stand: pixel numbers plus one. Pixels are painted at x and y; z only goes along.
-#[derive(Clone, Copy)]
-pub(crate) struct Cursors {
-    pub(crate) x: u32,
-    pub(crate) y: u32,
-    pub(crate) z: u32,
-}
+use image::PixelList;
 
 // Paints pixel p.
 pub(crate) fn paint_pixel(picture: &mut [u8], p: usize, c: Color)
@@ -27,13 +20,13 @@ pub(crate) fn paint_pixel(picture: &mut [u8], p: usize, c: Color)
 }
 
 impl Sheet<'_> {
-    // Where count links from first lead.
-    pub(crate) fn look(self, first: u32, count: u32) -> u32
-        requires { T (reads self.size self.links.now first count) }
-        ensures { let s = self.entry in Leads s.size s.links.now first count result }
+    // Where the links of a list lead: behind its last pixel.
+    pub(crate) fn look(self, list: PixelList) -> u32
+        requires { T (reads self.size self.links.now list.first list.count) }
+        ensures { let s = self.entry in Leads s.size s.links.now list.first list.count result }
     {
-        let mut at = first;
-        for _step in 0..count {
+        let mut at = list.first;
+        for _step in 0..list.count {
             at = self.links[(at - 1) as usize];
         }
         at
@@ -66,31 +59,34 @@ impl Sheet<'_> {
         at
     }
 
-    // Paints the count pixels from at.x, whose middle is at.y, and answers where ahead links from at.z lead.
+    // Paints a list whose middle is mid, and answers where the links of ahead lead.
     pub(crate) fn paint_halves(
         self,
         picture: &mut [u8],
-        at: Cursors,
-        count: u32,
-        ahead: u32,
+        list: PixelList,
+        mid: u32,
+        ahead: PixelList,
         c: Color,
     ) -> u32
         requires long { 4 * self.size ≤ length picture.old }
-        requires list { T (reads self.size self.links.now at.x count) }
-        requires middle { Leads self.size self.links.now at.x (count / 2) at.y }
-        requires ahead { T (reads self.size self.links.now at.z ahead) }
-        ensures ahead { let s = self.entry in Leads s.size s.links.now at.z ahead result }
+        requires list { T (reads self.size self.links.now list.first list.count) }
+        requires middle { Leads self.size self.links.now list.first (list.count / 2) mid }
+        requires ahead { T (reads self.size self.links.now ahead.first ahead.count) }
+        ensures ahead { let s = self.entry in Leads s.size s.links.now ahead.first ahead.count result }
         ensures painted { let s = self.entry in picture.new
-            ≡ paint_along (color_of c) s.links.now at.x count picture.old }
+            ≡ paint_along (color_of c) s.links.now list.first list.count picture.old }
     {
-        let half = count / 2;
-        let both = half.min(ahead);
-        let [x, y, z] = self.paint_two(picture, [at.x, at.y, at.z], both, c);
+        let half = list.count / 2;
+        let both = half.min(ahead.count);
+        let [x, y, first] = self.paint_two(picture, [list.first, mid, ahead.first], both, c);
         let [_, y] = self.paint_two(picture, [x, y], half - both, c);
-        let z = self.look(z, ahead - both);
-        if half + half < count {
+        let end = self.look(PixelList {
+            first,
+            count: ahead.count - both,
+        });
+        if half + half < list.count {
             paint_pixel(picture, (y - 1) as usize, c);
         }
-        z
+        end
     }
 }

@@ -10,29 +10,18 @@ ghost use Rattle.container.specs.Code.Checked.{entries_answer, Passed, EntriesPa
 ghost use Rattle.container.specs.Code.Stretch.{FirstHalf};
 
 use crate::checked::Sheet;
-use crate::halves::Cursors;
 use color::{Color, ColorSum};
-use image::layout;
+use image::{PixelList, layout};
 use refusal::Refusal;
-
-// A stretch of a list: count pixels along the links from first.
-#[derive(Clone, Copy)]
-pub(crate) struct Stretch {
-    pub(crate) first: u32,
-    pub(crate) count: u32,
-}
 
 impl Sheet<'_> {
     // The residue of slot k.
-    #[tactic(auto, unfolding(rules::specs::Paint::five_from, rules::specs::Paint::slot_number))]
+    #[tactic(auto, unfolding(rules::specs::Paint::five_from))]
     pub(crate) fn residue(self, k: u32) -> ColorSum
         requires { k < self.n }
         ensures { sum_of result ≡ rules.slot_residue self.entry.table.now k }
     {
-        color::sum_in(
-            self.table,
-            layout::SLOT_WIDTH * (k as usize) + layout::RESIDUE_R,
-        )
+        color::sum_in(self.slot(k), layout::RESIDUE_R)
     }
 
     // Its average.
@@ -45,13 +34,13 @@ impl Sheet<'_> {
         self.residue(k).average().unwrap()
     }
 
-    // Whether the pixels of a stretch can be listed: no link is 0 or above size.
+    // Whether the pixels of a list can be listed: no link is 0 or above size.
     #[tactic(auto, using(crate::proofs::Stretches::reads_turned))]
-    pub(crate) fn is_listed(self, stretch: Stretch) -> bool
-        ensures { result ≡ rules.reads self.entry.size self.entry.links.now stretch.first stretch.count }
+    pub(crate) fn is_listed(self, list: PixelList) -> bool
+        ensures { result ≡ rules.reads self.entry.size self.entry.links.now list.first list.count }
     {
-        let mut at = stretch.first;
-        for _step in 0..stretch.count {
+        let mut at = list.first;
+        for _step in 0..list.count {
             if (at == 0) | (self.size < at) {
                 return false;
             }
@@ -61,14 +50,15 @@ impl Sheet<'_> {
     }
 
     // The list of slot k.
-    pub(crate) fn list(self, k: u32) -> Stretch
+    pub(crate) fn list(self, k: u32) -> PixelList
         requires { k < self.n }
         ensures first { result.first ≡ rules.slot_number self.entry.table.now k 0 }
         ensures count { result.count ≡ rules.slot_number self.entry.table.now k 1 }
     {
-        Stretch {
-            first: self.slot_number(k, layout::FIRST_PIXEL),
-            count: self.slot_number(k, layout::PIXEL_COUNT),
+        let slot = self.slot(k);
+        PixelList {
+            first: slot[layout::FIRST_PIXEL],
+            count: slot[layout::PIXEL_COUNT],
         }
     }
 
@@ -104,24 +94,24 @@ impl Sheet<'_> {
 
     // The first half of the list of the last entry; nothing where there is none.
     #[tactic(auto, using(crate::proofs::Stretches::reads_half))]
-    fn first_half(self, entries: &[u32]) -> Stretch
+    fn first_half(self, entries: &[u32]) -> PixelList
         requires { EntriesPass self entries.now }
         ensures half { FirstHalf self.entry.table.now entries.now result }
         ensures read { let s = self.entry in T (rules.reads s.size s.links.now result.first result.count) }
     {
         let [.., k] = entries else {
-            return Stretch { first: 0, count: 0 };
+            return PixelList { first: 0, count: 0 };
         };
         let list = self.list(*k);
-        Stretch {
-            first: list.first,
+        PixelList {
             count: list.count / 2,
+            ..list
         }
     }
 
     // Paints the cluster of slot k, whose middle is mid, with its residue average, and answers where ahead ends.
     #[tactic(auto, unfolding(rules::specs::Paint::paint_slot, crate::specs::Code::Stretch::paint_along))]
-    fn render_to_color_image(self, picture: &mut [u8], k: u32, mid: u32, ahead: Stretch) -> u32
+    fn render_to_color_image(self, picture: &mut [u8], k: u32, mid: u32, ahead: PixelList) -> u32
         requires long { 4 * self.size ≤ length picture.old }
         requires passed { Passed self k }
         requires mid { let s = self in Leads s.size s.links.now
@@ -131,13 +121,7 @@ impl Sheet<'_> {
         ensures painted { let s = self.entry in picture.new
             ≡ rules.paint_slot s.links.now s.table.now k picture.old }
     {
-        let list = self.list(k);
-        let at = Cursors {
-            x: list.first,
-            y: mid,
-            z: ahead.first,
-        };
-        self.paint_halves(picture, at, list.count, ahead.count, self.average(k))
+        self.paint_halves(picture, self.list(k), mid, ahead, self.average(k))
     }
 
     // Paints the entries from last to first.
@@ -148,8 +132,7 @@ impl Sheet<'_> {
         ensures { let s = self.entry in picture.new
             ≡ each_back entries.now (rules.paint_slot s.links.now s.table.now) picture.old }
     {
-        let begun = self.first_half(entries);
-        let mut mid = self.look(begun.first, begun.count);
+        let mut mid = self.look(self.first_half(entries));
         let mut left = entries;
         while let [before @ .., k] = left {
             let ahead = self.first_half(before);

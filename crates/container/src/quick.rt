@@ -4,9 +4,8 @@ ghost use Rattle.container.specs.Code.Quick.{NumbersPass, ListPasses, LanePasses
 
 use crate::checked::Sheet;
 use crate::numbered::Numbered;
-use crate::paint::Stretch;
 use crate::whole::Walk;
-use image::layout;
+use image::PixelList;
 
 impl Sheet<'_> {
     // Whether slot k is below n, its residue has an average, and its count is at most size.
@@ -19,19 +18,12 @@ impl Sheet<'_> {
         if !self.residue(k).has_average() {
             return false;
         }
-        self.slot_number(k, layout::PIXEL_COUNT) <= self.size
+        self.list(k).count <= self.size
     }
 }
 
-// The rest of a list: its next pixel, plus one, and how many pixels it has. `left` entries have not been taken.
-#[derive(Clone, Copy)]
-struct Lane {
-    at: u32,
-    count: u32,
-    left: usize,
-}
-
-// The rests of four lists, which are read at once. `left` entries have not been taken.
+// The rests of four lists, which are read at once: their next pixels, plus one, and how many pixels they have. `left`
+// entries have not been taken.
 #[derive(Clone, Copy)]
 struct Lanes {
     at: [u32; 4],
@@ -40,28 +32,25 @@ struct Lanes {
 }
 
 impl Numbered<'_> {
-    // The lane; where it has no pixel left, it takes the next entry that has pixels, from the last of `left` entries
-    // down.
+    // The rest of a list, with how many entries are left; where it has no pixel, the next list that has one, from the
+    // last of `left` entries down.
     #[tactic(auto, using(crate::proofs::Passes::takes))]
-    fn filled(self, lane: Lane) -> Lane
-        requires { lane.left ≤ length self.sheet.outputs.now }
-        ensures left { result.left ≤ lane.left }
-        ensures passes { let s = self.entry.sheet in LanePasses s.table.now s.outputs.now lane result }
+    fn filled(self, rest: PixelList, left: usize) -> (PixelList, usize)
+        requires { left ≤ length self.sheet.outputs.now }
+        ensures left { result.1 ≤ left }
+        ensures passes { let s = self.entry.sheet in
+            LanePasses s.table.now s.outputs.now rest left result.0 result.1 }
     {
-        if lane.count != 0 {
-            return lane;
+        if rest.count != 0 {
+            return (rest, left);
         }
-        for left in (0..lane.left).rev() {
-            let list = self.sheet.list(self.sheet.outputs[left]);
+        for before in (0..left).rev() {
+            let list = self.sheet.list(self.sheet.outputs[before]);
             if list.count != 0 {
-                return Lane {
-                    at: list.first,
-                    count: list.count,
-                    left,
-                };
+                return (list, before);
             }
         }
-        Lane { left: 0, ..lane }
+        (rest, 0)
     }
 
     // The four lanes, each filled.
@@ -78,14 +67,14 @@ impl Numbered<'_> {
             mut left,
         } = lanes;
         for i in 0..4 {
-            let lane = self.filled(Lane {
-                at: at[i],
+            let rest = PixelList {
+                first: at[i],
                 count: count[i],
-                left,
-            });
-            at[i] = lane.at;
-            count[i] = lane.count;
-            left = lane.left;
+            };
+            let (list, before) = self.filled(rest, left);
+            at[i] = list.first;
+            count[i] = list.count;
+            left = before;
         }
         Lanes { at, count, left }
     }
@@ -129,7 +118,7 @@ impl Numbered<'_> {
         ensures { let s = self.entry.sheet in result ≡ true → RestsPass s.size s.links.now lanes }
     {
         (0..4).all(|i: usize| {
-            self.sheet.is_listed(Stretch {
+            self.sheet.is_listed(PixelList {
                 first: lanes.at[i],
                 count: lanes.count[i],
             })

@@ -49,28 +49,44 @@ impl Sheet<'_> {
         }
         Walk { at, moved: most }
     }
+}
 
+// Two pixels of a sheet, plus one, where walks along its links stop.
+#[derive(Clone, Copy)]
+struct Stops<'a> {
+    sheet: Sheet<'a>,
+    q: u32,
+    r: u32,
+    ghost q_some: { 0 < q },
+    ghost q_within: { q ≤ sheet.size },
+    ghost r_some: { 0 < r },
+    ghost r_within: { r ≤ sheet.size },
+}
+
+impl Stops<'_> {
     // Walks from first, q and r: all three, then any two of which neither has stopped, then each alone.
-    fn walks(self, first: u32, q: u32, r: u32) -> (Walk<1>, Walk<1>, Walk<1>)
-        requires q { (0 < q) × (q ≤ self.size) }
-        requires r { (0 < r) × (r ≤ self.size) }
-        ensures moved { let most = 5 * self.entry.size in
+    fn walks(self, first: u32) -> (Walk<1>, Walk<1>, Walk<1>)
+        ensures moved { let most = 5 * self.entry.sheet.size in
             (result.0.moved ≤ most) × (result.1.moved ≤ most) × (result.2.moved ≤ most) }
-        ensures first { let s = self.entry in Leads s.size s.links.now first result.0.moved (get_or result.0.at 0 0) }
-        ensures q { let s = self.entry in Leads s.size s.links.now q result.1.moved (get_or result.1.at 0 0) }
-        ensures r { let s = self.entry in Leads s.size s.links.now r result.2.moved (get_or result.2.at 0 0) }
+        ensures first { let s = self.entry.sheet in
+            Leads s.size s.links.now first result.0.moved (get_or result.0.at 0 0) }
+        ensures q { let s = self.entry.sheet in
+            Leads s.size s.links.now self.entry.q result.1.moved (get_or result.1.at 0 0) }
+        ensures r { let s = self.entry.sheet in
+            Leads s.size s.links.now self.entry.r result.2.moved (get_or result.2.at 0 0) }
     {
+        let Stops { sheet, q, r, .. } = self;
         let mut on = [q, r];
-        self.follow(&mut on);
+        sheet.follow(&mut on);
         let [b, c] = on;
-        let size = self.size;
-        let t = self.walk(q, r, [first, b, c], size);
-        let u = self.walk(q, r, [t.at[0], t.at[1]], size);
-        let v = self.walk(q, r, [u.at[1], t.at[2]], size);
-        let w = self.walk(q, r, [u.at[0], v.at[1]], size);
-        let x = self.walk(q, r, [w.at[0]], size);
-        let y = self.walk(q, r, [v.at[0]], size);
-        let z = self.walk(q, r, [w.at[1]], size);
+        let size = sheet.size;
+        let t = sheet.walk(q, r, [first, b, c], size);
+        let u = sheet.walk(q, r, [t.at[0], t.at[1]], size);
+        let v = sheet.walk(q, r, [u.at[1], t.at[2]], size);
+        let w = sheet.walk(q, r, [u.at[0], v.at[1]], size);
+        let x = sheet.walk(q, r, [w.at[0]], size);
+        let y = sheet.walk(q, r, [v.at[0]], size);
+        let z = sheet.walk(q, r, [w.at[1]], size);
         (
             Walk {
                 moved: t.moved + u.moved + w.moved + x.moved,
@@ -88,13 +104,12 @@ impl Sheet<'_> {
     }
 
     // True only if size links from first lead to 0: from first to q, to r and to 0, or to r, to q and to 0.
-    fn is_whole(self, first: u32, q: u32, r: u32) -> bool
-        requires q { (0 < q) × (q ≤ self.size) }
-        requires r { (0 < r) × (r ≤ self.size) }
-        ensures { let s = self.entry in result ≡ true → Leads s.size s.links.now first s.size 0 }
+    fn is_whole(self, first: u32) -> bool
+        ensures { let s = self.entry.sheet in result ≡ true → Leads s.size s.links.now first s.size 0 }
     {
-        let (x, y, z) = self.walks(first, q, r);
-        if x.moved + y.moved + z.moved != self.size {
+        let Stops { sheet, q, r, .. } = self;
+        let (x, y, z) = self.walks(first);
+        if x.moved + y.moved + z.moved != sheet.size {
             return false;
         }
         let ends = [x.at[0], y.at[0], z.at[0]];
@@ -130,8 +145,11 @@ impl Numbered<'_> {
         ensures { let s = self.entry.sheet in result ≡ true → Leads s.size s.links.now first s.size 0 }
     {
         let sheet = self.sheet;
-        let q = self.stretch_start(2, sheet.size / 8 + 1);
-        let r = self.stretch_start(3, sheet.size / 2 + 1);
-        sheet.is_whole(first, q, r)
+        Stops {
+            sheet,
+            q: self.stretch_start(2, sheet.size / 8 + 1),
+            r: self.stretch_start(3, sheet.size / 2 + 1),
+        }
+        .is_whole(first)
     }
 }

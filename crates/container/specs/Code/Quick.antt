@@ -3,7 +3,7 @@ use Rattle.std.specs.Prelude.{List, ℕ, ◌≤◌, ◌<◌, T, get_or}
 use Rattle.rules.specs.Color.{has_average}
 use Rattle.rules.specs.Paint.{reads, slot_number, slot_residue}
 use Rattle.rules.specs.Layout.{first_pixel_place, pixel_count_place}
-use Rattle.container.specs.declared.quick.Lane.{Lane}
+use Rattle.image.specs.declared.PixelList.{PixelList}
 use Rattle.container.specs.declared.quick.Lanes.{Lanes}
 
 -- slot k passes checks 8 and 9, and its count is at most size
@@ -20,12 +20,12 @@ ListPasses size links table k =
 abbrev pub PassFrom : ℕ → List ℕ → List ℕ → List ℕ → ℕ → ℕ → Type 0
 PassFrom size links table outputs m left = (i : ℕ) → left ≤ i → i < m → ListPasses size links table (get_or outputs i 0)
 
--- If the rest that lane y holds can be read, so can that which lane x held before, and the lists of the entries that
--- were taken since.
-pub record LanePasses (table outputs : List ℕ) (x y : Lane) : Type 0 where
-  pub rest : (size : ℕ) (links : List ℕ) → T (reads size links y.at y.count) → T (reads size links x.at x.count)
-  pub taken : (size : ℕ) (links : List ℕ) → T (reads size links y.at y.count)
-      → (m : ℕ) → PassFrom size links table outputs m x.left → PassFrom size links table outputs m y.left
+-- If the rest y of a list can be read, so can the rest x that was there before, and the lists of the entries that were
+-- taken since: left, .. before - 1.
+pub record LanePasses (table outputs : List ℕ) (x : PixelList) (before : ℕ) (y : PixelList) (left : ℕ) : Type 0 where
+  pub rest : (size : ℕ) (links : List ℕ) → T (reads size links y.first y.count) → T (reads size links x.first x.count)
+  pub taken : (size : ℕ) (links : List ℕ) → T (reads size links y.first y.count)
+      → (m : ℕ) → PassFrom size links table outputs m before → PassFrom size links table outputs m left
 
 -- the rests of the four lanes can be read
 abbrev pub RestsPass : ℕ → List ℕ → Lanes → Type 0

@@ -5,4 +5,4 @@ use Rattle.container.proofs.checked.Sheet.is_listed.Given as goal
 
 -- what is left of the list decides
 abbrev pub invariant-loop-step : goal.invariant-loop-step
-invariant-loop-step l = reads l.self.size l.self.links.now l.at (l.fn.stretch.count - l._step) ≡ reads l.self.size l.self.links.now l.fn.stretch.first l.fn.stretch.count
+invariant-loop-step l = reads l.self.size l.self.links.now l.at (l.fn.list.count - l._step) ≡ reads l.self.size l.self.links.now l.fn.list.first l.fn.list.count

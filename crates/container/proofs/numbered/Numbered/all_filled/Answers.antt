@@ -9,5 +9,5 @@ loop-i-preserved c = let l = c.loop-i in record {
   count = rw length-set l.invariant.count;
   left = omega (arith, l.invariant.left);
   pass = λ size links m p.
-      filled-turn size links _ _ m l.i (record { at = l.at; count = l.count; left = l.left }) c.filled-lane.result l.invariant.at l.invariant.count (omega arith) c.filled-lane.ensures.passes (l.invariant.pass size links m p);
+      filled-turn size links _ _ m l.i (record { at = l.at; count = l.count; left = l.left }) c.filled-before.result.0 _ l.invariant.at l.invariant.count (omega arith) c.filled-before.ensures.passes (l.invariant.pass size links m p);
 }

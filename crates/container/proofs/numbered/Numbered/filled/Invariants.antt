@@ -2,5 +2,5 @@ use Rattle.container.specs.Code.Quick.{LanePasses}
 use Rattle.container.proofs.numbered.Numbered.filled.Given as goal
 
 -- the entries taken so far have no pixel
-abbrev pub invariant-loop-left : goal.invariant-loop-left
-invariant-loop-left l = LanePasses l.self.sheet.table.now l.self.sheet.outputs.now l.fn.lane (record { at = l.fn.lane.at; count = 0; left = l.left })
+abbrev pub invariant-loop-before : goal.invariant-loop-before
+invariant-loop-before l = LanePasses l.self.sheet.table.now l.self.sheet.outputs.now l.rest l.left (record { first = l.rest.first; count = 0 }) l.before
