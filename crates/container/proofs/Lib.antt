@@ -6,4 +6,3 @@ pub mod Covered
 pub mod Pictures
 pub mod Stretches
 pub mod Accepted
-pub mod Slots

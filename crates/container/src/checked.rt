@@ -48,7 +48,7 @@ impl<'a> Sheet<'a> {
     }
 
     // The numbers of slot k.
-    #[tactic(auto, using(crate::proofs::Slots::in_slot))]
+    #[tactic(auto, using(image::proofs::Slots::in_slot))]
     pub(crate) fn slot(self, k: u32) -> &'a [u32; layout::SLOT_WIDTH]
         requires { k < self.n }
         ensures { (place : ℕ) → place < slot_width

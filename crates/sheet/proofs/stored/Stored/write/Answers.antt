@@ -10,7 +10,7 @@ use Rattle.rules.specs.Stored.{pixel_numbers, slot_numbers}
 use Rattle.sheet.proofs.Bytes.{Small, stored-small, stored-length, stored-parts, pair-small}
 use Rattle.std.specs.Simd.{first_chunks}
 use Rattle.rules.specs.Layout.{slot_width}
-use Rattle.sheet.proofs.Slots.{in-slot}
+use Rattle.image.proofs.Slots.{in_slot}
 use Rattle.sheet.proofs.stored.Stored.write.Goals as goal
 use Rattle.sheet.proofs.stored.Stored.write.Goals.{Start}
 
@@ -33,7 +33,7 @@ slot c = pair-small (λ k. slot_number c.args.self.clusters.table.now k 0) (λ k
 -- a place of a slot, read from the parts of the table
 read : (table : List ℕ) (place : ℕ) {slots : List (List ℕ)} {k : ℕ} → place < slot_width → slots ≡ first_chunks slot_width (length table / slot_width) table → length slots ≡ length table / slot_width
     → k < length slots → get_or (get_or slots k []) place 0 ≡ slot_number table k place
-read table place {slots} {k} m e n l = rw e (in-slot table (length table / slot_width) k place [] (omega (arith, n, l)) m)
+read table place {slots} {k} m e n l = rw e (in_slot table (length table / slot_width) k place [] (omega (arith, n, l)) m)
 
 pub put_pairs-requires-clause-first : goal.put_pairs-requires-clause-first
 put_pairs-requires-clause-first c = λ p l. (search rules, λ x q. let e : x ≡ get_or c.args.self.labels.now p 0 = search rules in rw e (pixel (goal.at.put_pairs-requires-clause-first c).Start p l).0)

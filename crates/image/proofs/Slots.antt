@@ -1,4 +1,4 @@
--- The slots of a table as parts of 21 numbers.
+-- The slots of a table as parts of 21 numbers. Assumes nothing.
 use Rattle.std.proofs.Common.{◌≡◌, ℕ, zero, suc, ◌+◌, ◌*◌, ◌<◌, List, get_or, drop, arith, ◌∙◌, ap}
 use Rattle.std.proofs.lemmas.List.{get_or-take, get_or-drop}
 use native.Mathlib.Nat.{mul-suc}
