@@ -1,4 +1,4 @@
--- Where the numbers of a slot stand in the table, and when a head is that of a cluster. Assumes nothing.
+-- When a head is that of a cluster, and numbers of a slot written at once. Assumes nothing.
 use Rattle.std.proofs.Common.{◌≡◌, List, [], ◌∷◌, ℕ, suc, ◌+◌, ◌≤◌, ◌<◌, length, set, take, drop, ◌++◌, sym, ap, ◌∙◌, append_assoc, length-set, add-suc, arith}
 use Rattle.std.proofs.Math.Seq.{take-suc-set}
 use Rattle.std.proofs.lemmas.Grind.{common_steps}
