@@ -2,7 +2,7 @@
 use Rattle.std.specs.Prelude.{if◌then◌else◌}
 use mathlib.Core.Path.{◌≡◌, refl}
 use mathlib.Core.Bool.{Bool, true, false, not, ◌||◌}
-use mathlib.Core.List.{List, [], ◌∷◌, ◌++◌}
+use mathlib.Core.List.{[], ◌∷◌, ◌++◌}
 use lib.ListN.{length}
 use Prim.Native.Nat.{ℕ, ◌*◌, ◌≤◌, ◌<◌}
 use native.Mathlib.Omega.{arith}
@@ -13,7 +13,7 @@ use Rattle.refusal.proofs.Laws.{refused_number}
 use Rattle.refusal.specs.Refusal.{answer_of}
 use Rattle.refusal.specs.declared.Refusal.{Refusal}
 use lib.Dec.{leb, ltb, eqb}
-use Rattle.rules.specs.Refusals.{Check, refusal, first_failed, size_checks, limit, short_sheet, bad_counts, row_answer, store_answer}
+use Rattle.rules.specs.Refusals.{refusal, first_failed, size_checks, limit, short_sheet, bad_counts, row_answer, store_answer}
 use Rattle.rules.proofs.Accepted.{passed, neither, long-sheet, good-counts, equal, failed-later}
 use Rattle.image.specs.declared.Clusters.{Clusters}
 use Rattle.sheet.specs.Code.Stored.{CanStore, short, early_answer}
