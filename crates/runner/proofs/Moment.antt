@@ -12,8 +12,7 @@ use Rattle.rules.specs.Color.{RunnerConfig, ColorSum, hierarchical_max, color_di
 use Rattle.rules.specs.State.{State, cluster, label, area}
 use Rattle.rules.specs.Stage2.{labels_around, neighbours, cluster_diff, rank, deepens}
 use Rattle.rules.specs.Ledger.{ledger}
-use Rattle.rules.specs.Layout.{first_of, walk, slot_width, first_pixel_place, pixel_count_place}
-use Rattle.rules.specs.Paint.{reads}
+use Rattle.rules.specs.Layout.{first_of, slot_width, first_pixel_place, pixel_count_place}
 use Rattle.rules.specs.Code.Order.{Queue, next_pending}
 use Rattle.rules.specs.Code.Ranges.{Fits, Ranged}
 use Rattle.rules.proofs.Visits.{Near, Going, neighbours-near}

@@ -5,13 +5,12 @@ use mathlib.Core.Bool.{Bool, true, false, ◌||◌}
 use mathlib.Core.List.{List, [], ◌∷◌}
 use Prim.Native.Nat.{ℕ, ◌+◌, ◌*◌, ◌≤◌, ◌<◌, max}
 use native.Mathlib.Omega.{arith}
-use lib.Dec.{T, leb}
+use lib.Dec.{leb}
 use lib.ListN.{length, get_or, set, length-append}
 use borrow.Author.Tests.{lt-ltb, le-ltb}
 use Rattle.rules.specs.Color.{RunnerConfig, discards}
 use Rattle.rules.specs.State.{State, plain, deepened, cluster, label, area, put_out, merge_cluster_into, deepen_cluster_into}
-use Rattle.rules.specs.Layout.{slot_width, first_pixel_place, pixel_count_place}
-use Rattle.rules.specs.Paint.{reads}
+use Rattle.rules.specs.Layout.{slot_width, pixel_count_place}
 use Rattle.rules.specs.Stage2.{labels_around, neighbours, cluster_diff, rank, deepens, isolated, merge_into_nearest, by_neighbours}
 use Rattle.rules.specs.Code.Order.{Queue, rekey, largest}
 use Rattle.rules.proofs.Basic.{Moved, merge-moved, deepen-moved}

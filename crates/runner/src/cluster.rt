@@ -111,7 +111,8 @@ impl<'a> Visit<'a> {
     }
 
     // Whether the pixels before and after p, and those a row above and below it, are all of the cluster: then p has no
-    // neighbour to note, wherever the image ends. It saves the division by w for most pixels.
+    // neighbour to note, wherever the image ends. It saves the division by w for most pixels; with one branch for both
+    // ends of the image the tests of `four_labels` stay out of that path.
     fn is_inside(self, p: u32) -> bool
         requires { p < self.input.now.w * self.input.now.h }
         ensures { result ≡ true → (s : Scan) → looked_by self.entry p s ≡ s }
@@ -119,7 +120,7 @@ impl<'a> Visit<'a> {
         let labels = self.labels;
         let i = p as usize;
         let row = self.input.w as usize;
-        if i < row || labels.len() <= i + row {
+        if (i < row) | (labels.len() <= i + row) {
             return false;
         }
         (labels[i - row] == self.own)
@@ -169,9 +170,11 @@ pub(crate) fn neighbours(
         own: k,
         mine: color(b.table, k),
     };
+    let list = slot::list(b.table, k);
     let pixels = Pixels {
         links: &*b.links,
-        left: slot::list(b.table, k),
+        next: &list.first,
+        left: list.count,
     };
     let mut found = Nearest::default();
     for p in pixels {

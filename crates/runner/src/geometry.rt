@@ -16,19 +16,22 @@ use super::input::Input;
 use super::list::Pixels;
 use super::slot;
 use crate::HIERARCHICAL_MAX;
+use image::PixelList;
 
-// The cluster of a slot and what is read of it: the labels, and the pixels of its list.
+// The cluster of a slot and what is read of it: the labels, and its list along the links.
 #[derive(Clone, Copy)]
-struct Candidate<'a, 'b> {
+struct Candidate<'a> {
     input: &'a Input<'a>,
-    labels: &'b [u32],
+    labels: &'a [u32],
+    links: &'a [u32],
     slot: u32,
-    pixels: Pixels<'b>,
+    list: PixelList,
     ghost labelled: { input.now.w * input.now.h ≡ length labels.now },
-    ghost listed: { Readable (input.now.w * input.now.h) pixels.links.now pixels.left },
+    ghost linked: { input.now.w * input.now.h ≤ length links.now },
+    ghost listed: { Readable (input.now.w * input.now.h) links.now list },
 }
 
-impl Candidate<'_, '_> {
+impl<'a> Candidate<'a> {
     // Whether pixel q is in the list, by its label.
     fn in_list(self, q: u32) -> bool
         requires { q < self.input.now.w * self.input.now.h }
@@ -58,13 +61,17 @@ impl Candidate<'_, '_> {
     }
 
     // Whether some pixel of the list has its four neighbours in it.
-    #[tactic(auto, unfolding(crate::specs::Code::Interior::some_inside), using(crate::proofs::Pixels::pixels_within))]
+    #[tactic(auto, unfolding(crate::specs::Code::Interior::some_inside), using(crate::proofs::Pixels::readable_wider))]
     fn has_interior(self) -> bool
         ensures { let c = self.entry in let p = c.input.now in
             result ≡ some_inside (config_of p.o) p.image.now c.labels.now p.w p.h c.slot
-            (pixels c.pixels.links.now c.pixels.left) }
+            (pixels c.links.now c.list) }
     {
-        let mut pixels = self.pixels;
+        let mut pixels = Pixels {
+            links: self.links,
+            next: &self.list.first,
+            left: self.list.count,
+        };
         pixels.any(|p| self.surrounded(p))
     }
 
@@ -72,11 +79,10 @@ impl Candidate<'_, '_> {
     #[tactic(auto, unfolding(crate::specs::Code::Stage2::patch_good_at))]
     fn patch_good(self) -> bool
         ensures { let c = self.entry in let p = c.input.now in
-            result ≡ patch_good_at (config_of p.o) p.image.now c.labels.now c.pixels.links.now p.w p.h c.slot
-            c.pixels.left }
+            result ≡ patch_good_at (config_of p.o) p.image.now c.labels.now c.links.now p.w p.h c.slot c.list }
     {
         let o = &self.input.o;
-        let area = self.pixels.left.count;
+        let area = self.list.count;
         o.good_min_area < area
             && area < o.good_max_area
             && (o.good_min_area == 0 || self.has_interior())
@@ -84,7 +90,7 @@ impl Candidate<'_, '_> {
 }
 
 // Whether cluster k deepens into a neighbour of difference diff.
-#[tactic(auto, unfolding(crate::specs::Code::Stage2::deepens_at), using(crate::proofs::Pixels::readable_wider))]
+#[tactic(auto, unfolding(crate::specs::Code::Stage2::deepens_at))]
 pub(crate) fn deepens(b: &Builder, input: &Input, k: u32, diff: u32) -> bool
     requires slot { InTable k b.now.table.now }
     requires lengths { let size = input.now.w * input.now.h in
@@ -99,11 +105,9 @@ pub(crate) fn deepens(b: &Builder, input: &Input, k: u32, diff: u32) -> bool
     let candidate = Candidate {
         input,
         labels: &*b.labels,
+        links: &*b.links,
         slot: k,
-        pixels: Pixels {
-            links: &*b.links,
-            left: slot::list(b.table, k),
-        },
+        list: slot::list(b.table, k),
     };
     o.hierarchical == HIERARCHICAL_MAX && o.deepen_diff < diff as i32 && candidate.patch_good()
 }

@@ -5,7 +5,7 @@ use Rattle.std.proofs.Math.Option.{some}
 use Rattle.image.specs.declared.PixelList.{PixelList}
 use Rattle.rules.specs.Color.{RunnerConfig, hierarchical_max, exceeds, discards}
 use Rattle.rules.specs.State.{State, cluster, area}
-use Rattle.rules.specs.Layout.{walk, links, slot_width, pixel_count_place}
+use Rattle.rules.specs.Layout.{links, slot_width, pixel_count_place}
 use Rattle.rules.specs.Stage2.{prepare_stage2, neighbours, rank}
 use Rattle.rules.specs.Stage2 as rules
 use Rattle.rules.specs.Run.{stage1}

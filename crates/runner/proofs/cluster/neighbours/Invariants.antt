@@ -20,4 +20,4 @@ pub record Going (labels links table marks : List ℕ) (w h k visit : ℕ) (s : 
 
 abbrev pub invariant-loop-p : goal.invariant-loop-p
 invariant-loop-p l = let b = l.fn.b in
-    Going b.labels.now b.links.now b.table.now l.initial.marks l.fn.input.w l.fn.input.h l.k l.visit (record { marks = l.marks; nearest = l.found }) (pixels l.p-iterator.links.now l.p-iterator.left)
+    Going b.labels.now b.links.now b.table.now l.initial.marks l.fn.input.w l.fn.input.h l.k l.visit (record { marks = l.marks; nearest = l.found }) (pixels l.p-iterator.links.now (record { first = l.p-iterator.next.now; count = l.p-iterator.left }))
