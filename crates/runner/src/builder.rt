@@ -57,18 +57,6 @@ fn link_hole(table: &mut [u32], holes: u32, tail: u32, f: u32, t: u32)
     slot::set_number(table, tail - 1, layout::NEXT_HOLE, f + 1);
 }
 
-// f is appended to the hole children of t, of which `ends` holds for each slot the last, plus one.
-pub(crate) fn append_hole(table: &mut [u32], ends: &mut [u32], f: u32, t: u32)
-    requires { CanHollow f t table.old ends.old }
-    ensures { Hollowed f t table.old ends.old table.new ends.new }
-{
-    let holes = slot::numbers(table, t)[layout::NUM_HOLES];
-    let tail = ends[t as usize];
-    ends[t as usize] = f + 1;
-    slot::set_number(table, t, layout::NUM_HOLES, holes + 1);
-    link_hole(table, holes, tail, f, t);
-}
-
 // The clusters under construction: labels, links and table, and the ends of the lists.
 #[derive(Drop)]
 pub(crate) struct Builder<'a> {
@@ -159,5 +147,21 @@ impl<'a> Builder<'a> {
         self.combine_clusters_clone(f, t);
         slot::set_number(self.table, f, layout::MERGED_INTO, t);
         slot::set_number(self.table, t, layout::DEPTH, depth + 1);
+    }
+
+    // f is appended to the hole children of t, of which `hole_ends` holds for each slot the last, plus one.
+    pub(crate) fn append_hole(&mut self, hole_ends: &mut [u32], f: u32, t: u32)
+        requires { CanHollow f t self.old.table.now hole_ends.old }
+        ensures loans { SameLists self.old self.new }
+        ensures lists { (self.new.labels.now ≡ self.old.labels.now) × (self.new.links.now ≡ self.old.links.now)
+            × (self.new.ends.now ≡ self.old.ends.now) }
+        ensures hollowed { Hollowed f t self.old.table.now hole_ends.old self.new.table.now hole_ends.new }
+    {
+        let table = &mut *self.table;
+        let holes = slot::numbers(table, t)[layout::NUM_HOLES];
+        let tail = hole_ends[t as usize];
+        hole_ends[t as usize] = f + 1;
+        slot::set_number(table, t, layout::NUM_HOLES, holes + 1);
+        link_hole(table, holes, tail, f, t);
     }
 }

@@ -5,54 +5,57 @@ ghost use Rattle.rules.specs.Calls.{answered};
 ghost use Rattle.rules.specs.Calls as rules;
 ghost use Rattle.rules.specs.Code.Accepted.{Accepted};
 ghost use Rattle.runner.specs.Types.{config_of, buffers_of, SameLoans};
-ghost use Rattle.runner.specs.Code.Lists.{of_work, of_input, SameLists, SameWork};
+ghost use Rattle.runner.specs.Code.Lists.{of_work, of_input, SameLists, SameRun};
 ghost use Rattle.runner.specs.Code.Stage2.{Entered};
 ghost use Rattle.runner.specs.Code.Calls.{Blanked, CanRun, Lent, Clustered};
 
 use super::builder::Builder;
 use super::input::Input;
 use super::queue::Queue;
-use super::stage2::Work;
-use super::{outputs, stage1, stage2};
+use super::stage2::Run;
+use super::{outputs, stage1};
 use crate::{Buffers, RunnerConfig};
 use image::{Counts, Size};
 
-// Labels, links and marks of zeros.
-fn blank(b: &mut Builder, work: &mut Work)
-    ensures lists { SameLists b.old b.new }
-    ensures work { SameWork work.old work.new }
-    ensures blanked { of_work (of_work Blanked b.old work.old) b.new work.new }
-{
-    b.labels.fill(0);
-    b.links.fill(0);
-    work.marks.fill(0);
-}
+impl<'a, 'b, 'c, 'd> Run<'a, 'b, 'c, 'd> {
+    // Labels, links and marks of zeros.
+    fn blank(&mut self)
+        ensures same { SameRun self.old self.new }
+        ensures blanked { of_work (of_work Blanked self.old) self.new }
+    {
+        let lists = &mut *self.lists;
+        lists.labels.fill(0);
+        lists.links.fill(0);
+        self.marks.fill(0);
+    }
 
-// Stage 1 from blank buffers; answers the number of slots.
-fn label_image(b: &mut Builder, work: &mut Work, input: &Input) -> u32
-    requires { of_work (CanRun (input.now.w * input.now.h)) b.old work.old }
-    ensures lists { SameLists b.old b.new }
-    ensures work { SameWork work.old work.new }
-    ensures entered { of_work (of_input Entered input.now b.old.table.now) b.new work.new result }
-{
-    blank(b, work);
-    stage1::stage_1(b, input).count
-}
+    // Stage 1 from blank buffers; answers the number of slots.
+    fn label_image(&mut self) -> u32
+        requires { of_work (CanRun (self.old.input.now.w * self.old.input.now.h)) self.old }
+        ensures same { SameRun self.old self.new }
+        ensures entered { of_work (of_input Entered self.new.input.now self.old.lists.now.table.now) self.new result }
+    {
+        self.blank();
+        stage1::stage_1(self.lists, self.input).count
+    }
 
-// Both stages; the outputs that still count something are copied.
-fn both_stages(b: &mut Builder, work: &mut Work, outputs: &mut [u32], input: &Input) -> Counts
-    requires can_run { of_work (CanRun (input.now.w * input.now.h)) b.old work.old }
-    requires outputs { 2 * (input.now.w * input.now.h) ≤ length outputs.old }
-    ensures lists { SameLists b.old b.new }
-    ensures work { SameWork work.old work.new }
-    ensures clustered { let p = input.now in
-        Clustered (run (config_of p.o) p.w p.h p.image.now) b.old.table.now outputs.old b.new.labels.now
-        b.new.links.now b.new.table.now outputs.new result.n result.m }
-{
-    let n = label_image(b, work, input);
-    let t = stage2::stage_2(b, work, input, n);
-    let m = outputs::drop_empty(b, &work.staged[..t.m as usize], outputs);
-    Counts { n, m }
+    // Both stages; the outputs that still count something are copied.
+    fn both_stages(&mut self, outputs: &mut [u32]) -> Counts
+        requires can_run { of_work (CanRun (self.old.input.now.w * self.old.input.now.h)) self.old }
+        requires outputs { 2 * (self.old.input.now.w * self.old.input.now.h) ≤ length outputs.old }
+        ensures builder { self.new.lists.ghost_name ≡ self.old.lists.ghost_name }
+        ensures lists { SameLists self.old.lists.now self.new.lists.now }
+        ensures clustered { let p = self.old.input.now in
+            Clustered (run (config_of p.o) p.w p.h p.image.now) self.old.lists.now.table.now outputs.old
+            self.new.lists.now.labels.now self.new.lists.now.links.now self.new.lists.now.table.now outputs.new result.n
+            result.m }
+    {
+        let n = self.label_image();
+        let t = self.stage_2(n);
+        let staged = &mut *self.staged;
+        let m = outputs::drop_empty(self.lists, &staged[..t.m as usize], outputs);
+        Counts { n, m }
+    }
 }
 
 // The same over the buffers, with the work buffer cut into its parts.
@@ -80,17 +83,19 @@ fn clustered(
         table,
         ends,
     };
-    let queue = Queue {
+    let mut queue = Queue {
         numbers: queue,
         n: 0,
     };
-    let mut parts = Work {
+    let mut run = Run {
+        lists: &mut lists,
         hole_ends,
-        queue,
+        queue: &mut queue,
         marks,
         staged: &mut rest[0..2 * room],
+        input: &*input,
     };
-    both_stages(&mut lists, &mut parts, outputs, input)
+    run.both_stages(outputs)
 }
 
 // A run whose checks are passed, over the beginnings of the buffers, which may be longer. The work buffer is cleared in

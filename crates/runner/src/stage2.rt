@@ -3,7 +3,7 @@ ghost use Rattle.std.specs.Prelude.{◌≡◌, true, List, ℕ, ◌+◌, ◌*◌
 ghost use Rattle.rules.specs.Run.{stage1, stage2};
 ghost use Rattle.rules.specs.Layout.{slot_width, InTable};
 ghost use Rattle.runner.specs.Types.{config_of};
-ghost use Rattle.runner.specs.Code.Lists.{of_work, of_slots, of_input, SameLists, SameWork};
+ghost use Rattle.runner.specs.Code.Lists.{of_input, of_work, of_run, SameLists, SameRun};
 ghost use Rattle.runner.specs.Code.Queue.{SameQueue};
 ghost use Rattle.runner.specs.Code.Stage2.{Prepared, PreparedSlot, CanPut, Put, goes_out};
 ghost use Rattle.runner.specs.Code.Stage2.{CanGrow, Grown, Between, Chosen, Visiting, Aimed, Deepening, Visited};
@@ -13,17 +13,21 @@ use super::builder::Builder;
 use super::cluster::Nearest;
 use super::input::Input;
 use super::queue::{Entry, Queue};
-use super::{builder, cluster, geometry, queue, slot};
+use super::{cluster, geometry, queue, slot};
 use crate::RunnerConfig;
 
-// What stage 2 has beside the lists, for room = w × h + 1 slots: the ends of the hole lists (room), the queue of
-// pending slots (3 × room), the marks of the neighbours (room), and the outputs before any is dropped (2 × room).
+// What both stages work on: the clusters, what stage 2 has beside them, for room = w × h + 1 slots, and what is given.
+// Stage 2 has the ends of the hole lists (room), the queue of pending slots (3 × room), the marks of the neighbours
+// (room), and the outputs before any is dropped (2 × room). Clusters and queue are lent, and each loan has a lifetime of
+// its own: of a struct that is moved into another it is not known what its slices hold in the end.
 #[derive(Drop)]
-pub(crate) struct Work<'a> {
-    pub(crate) hole_ends: &'a mut [u32],
-    pub(crate) queue: Queue<'a>,
-    pub(crate) marks: &'a mut [u32],
-    pub(crate) staged: &'a mut [u32],
+pub(crate) struct Run<'a, 'b, 'c, 'd> {
+    pub(crate) lists: &'b mut Builder<'a>,
+    pub(crate) hole_ends: &'c mut [u32],
+    pub(crate) queue: &'b mut Queue<'c>,
+    pub(crate) marks: &'c mut [u32],
+    pub(crate) staged: &'c mut [u32],
+    pub(crate) input: &'d Input<'d>,
 }
 
 // What stage 2 carries from turn to turn: outputs, turns made, and the largest pixel count.
@@ -36,11 +40,16 @@ pub(crate) struct Turns {
 
 // Each residue is set to its sum, and each slot with pixels is pending; answers the largest pixel count.
 #[tactic(auto, using(crate::proofs::Prepare::prepare_done))]
-fn prepare_stage_2(table: &mut [u32], queue: &mut Queue) -> u32
-    requires { slot_width * queue.old.n ≤ length table.old }
+fn prepare_stage_2(b: &mut Builder, queue: &mut Queue) -> u32
+    requires { slot_width * queue.old.n ≤ length b.old.table.now }
+    ensures lists { SameLists b.old b.new }
     ensures same { SameQueue queue.old queue.new }
-    ensures prepared { Prepared queue.old.n table.old queue.old.numbers.now table.new queue.new.numbers.now result }
+    ensures kept { (b.new.labels.now ≡ b.old.labels.now) × (b.new.links.now ≡ b.old.links.now)
+        × (b.new.ends.now ≡ b.old.ends.now) }
+    ensures prepared { let q = queue.old in
+        Prepared q.n b.old.table.now q.numbers.now b.new.table.now queue.new.numbers.now result }
 {
+    let table = &mut *b.table;
     let mut largest = 0;
     for k in 0..queue.n as u32 {
         largest = largest.max(prepare_slot(table, queue, k));
@@ -84,56 +93,6 @@ fn grown(b: &Builder, queue: &mut Queue, t: Turns, to: u32) -> Turns
     }
 }
 
-// A deepening merge of k into the nearest neighbour.
-fn deepen_into_nearest(
-    b: &mut Builder,
-    work: &mut Work,
-    input: &Input,
-    t: Turns,
-    k: u32,
-    near: Nearest,
-) -> Turns
-    requires { (t₀ : List ℕ) × (a : ℕ) × of_slots (of_input Deepening input.now t₀) b.old work.old t k a near }
-    ensures lists { SameLists b.old b.new }
-    ensures work { SameWork work.old work.new }
-    ensures visited { (t₀ : List ℕ) (a : ℕ) → of_slots (of_input Deepening input.now t₀) b.old work.old t k a near
-        → of_slots (of_input Visited input.now t₀) b.new work.new t result k }
-{
-    let to = near.target;
-    let put = put_out(work.staged, t, k);
-    b.deepen_cluster_into(k, to);
-    if near.count <= input.o.hollow_neighbours {
-        builder::append_hole(b.table, work.hole_ends, k, to);
-        return grown(b, &mut work.queue, put, to);
-    }
-    grown(b, &mut work.queue, put, to)
-}
-
-// The cluster of an entry goes into the nearest of its neighbours.
-fn merge_into_nearest(
-    b: &mut Builder,
-    work: &mut Work,
-    input: &Input,
-    t: Turns,
-    e: Entry,
-    near: Nearest,
-) -> Turns
-    requires by_index { (t₀ : List ℕ)
-        × of_slots (of_input Visiting input.now t₀) b.old work.old t e.slot e.key (t.turns + 1) }
-    requires aimed { of_input Aimed input.now t.turns e.slot near }
-    ensures lists { SameLists b.old b.new }
-    ensures work { SameWork work.old work.new }
-    ensures visited { (t₀ : List ℕ)
-        → of_slots (of_input Visiting input.now t₀) b.old work.old t e.slot e.key (t.turns + 1)
-        → of_slots (of_input Visited input.now t₀) b.new work.new t result e.slot }
-{
-    if geometry::deepens(b, input, e.slot, near.diff) {
-        return deepen_into_nearest(b, work, input, t, e.slot, near);
-    }
-    b.merge_cluster_into(e.slot, near.target);
-    grown(b, &mut work.queue, t, near.target)
-}
-
 // A cluster without neighbours is put out if none is larger, or if keying is on with Discard; else it is passed over.
 #[tactic(auto, unfolding(rules::specs::Color::discards))]
 fn isolated(staged: &mut [u32], o: RunnerConfig, t: Turns, e: Entry) -> Turns
@@ -147,66 +106,96 @@ fn isolated(staged: &mut [u32], o: RunnerConfig, t: Turns, e: Entry) -> Turns
     }
 }
 
-// The slot of an entry is visited. A cluster of all pixels has no neighbour, and its list need not be read.
-fn visit(b: &mut Builder, work: &mut Work, input: &Input, t: Turns, e: Entry) -> Turns
-    requires { (t₀ : List ℕ) × of_slots (of_input Visiting input.now t₀) b.old work.old t e.slot e.key t.turns }
-    ensures lists { SameLists b.old b.new }
-    ensures work { SameWork work.old work.new }
-    ensures visited { (t₀ : List ℕ) → of_slots (of_input Visiting input.now t₀) b.old work.old t e.slot e.key t.turns
-        → of_slots (of_input Visited input.now t₀) b.new work.new t result e.slot }
-{
-    if input.o.hierarchical < e.key {
-        return put_out(work.staged, t, e.slot);
+impl<'a, 'b, 'c, 'd> Run<'a, 'b, 'c, 'd> {
+    // A deepening merge of k into the nearest neighbour.
+    fn deepen_into_nearest(&mut self, t: Turns, k: u32, near: Nearest) -> Turns
+        requires { (t₀ : List ℕ) × (a : ℕ) × of_run Deepening t₀ self.old t k a near }
+        ensures same { SameRun self.old self.new }
+        ensures visited { (t₀ : List ℕ) (a : ℕ) → of_run Deepening t₀ self.old t k a near
+            → of_run Visited t₀ self.new t result k }
+    {
+        let to = near.target;
+        let put = put_out(self.staged, t, k);
+        self.lists.deepen_cluster_into(k, to);
+        if near.count <= self.input.o.hollow_neighbours {
+            self.lists.append_hole(self.hole_ends, k, to);
+            return grown(self.lists, self.queue, put, to);
+        }
+        grown(self.lists, self.queue, put, to)
     }
-    if e.key == input.w * input.h {
-        return isolated(work.staged, input.o, t, e);
-    }
-    let near = cluster::neighbours(b, work.marks, input, e.slot, t.turns + 1);
-    if near.count == 0 {
-        return isolated(work.staged, input.o, t, e);
-    }
-    merge_into_nearest(b, work, input, t, e, near)
-}
 
-// One turn: the first pending slot is taken off the queue and visited.
-fn turn(b: &mut Builder, work: &mut Work, input: &Input, t: Turns, e: Entry) -> Turns
-    requires by_index { (t₀ : List ℕ) × of_slots (of_input Between input.now t₀) b.old work.old t }
-    requires chosen { of_input Chosen input.now t.turns e.slot e.key }
-    ensures lists { SameLists b.old b.new }
-    ensures work { SameWork work.old work.new }
-    ensures turned { (t₀ : List ℕ) → of_slots (of_input Between input.now t₀) b.old work.old t
-        → of_slots (of_input Between input.now t₀) b.new work.new result }
-    ensures turns { result.turns ≡ t.turns + 1 }
-{
-    work.queue.set_key(e.slot as usize, queue::NONE);
-    let v = visit(b, work, input, t, e);
-    Turns {
-        turns: v.turns + 1,
-        ..v
+    // The cluster of an entry goes into the nearest of its neighbours.
+    fn merge_into_nearest(&mut self, t: Turns, e: Entry, near: Nearest) -> Turns
+        requires by_index { (t₀ : List ℕ) × of_run Visiting t₀ self.old t e.slot e.key (t.turns + 1) }
+        requires aimed { of_input Aimed self.old.input.now t.turns e.slot near }
+        ensures same { SameRun self.old self.new }
+        ensures visited { (t₀ : List ℕ) → of_run Visiting t₀ self.old t e.slot e.key (t.turns + 1)
+            → of_run Visited t₀ self.new t result e.slot }
+    {
+        if geometry::deepens(self.lists, self.input, e.slot, near.diff) {
+            return self.deepen_into_nearest(t, e.slot, near);
+        }
+        self.lists.merge_cluster_into(e.slot, near.target);
+        grown(self.lists, self.queue, t, near.target)
     }
-}
 
-// Until no slot is pending.
-pub(crate) fn stage_2(b: &mut Builder, work: &mut Work, input: &Input, n: u32) -> Turns
-    requires { (t₀ : List ℕ) × of_work (of_input Entered input.now t₀) b.old work.old n }
-    ensures lists { SameLists b.old b.new }
-    ensures work { SameWork work.old work.new }
-    ensures staged { let p = input.now in (t₀ : List ℕ) → of_work (of_input Entered p t₀) b.old work.old n
-        → of_work
-        (Staged (p.w * p.h)
-        (stage2 (config_of p.o) p.w p.h (stage1 (config_of p.o) p.w p.h p.image.now)) t₀)
-        b.new work.new n result.m }
-{
-    work.queue.n = n as usize;
-    let largest = prepare_stage_2(b.table, &mut work.queue);
-    work.queue.build();
-    let mut t = Turns {
-        m: 0,
-        turns: 0,
-        largest,
-    };
-    while let Some(e) = work.queue.first() {
-        t = turn(b, work, input, t, e);
+    // The slot of an entry is visited. A cluster of all pixels has no neighbour, and its list need not be read.
+    fn visit(&mut self, t: Turns, e: Entry) -> Turns
+        requires { (t₀ : List ℕ) × of_run Visiting t₀ self.old t e.slot e.key t.turns }
+        ensures same { SameRun self.old self.new }
+        ensures visited { (t₀ : List ℕ) → of_run Visiting t₀ self.old t e.slot e.key t.turns
+            → of_run Visited t₀ self.new t result e.slot }
+    {
+        if self.input.o.hierarchical < e.key {
+            return put_out(self.staged, t, e.slot);
+        }
+        if e.key == self.input.w * self.input.h {
+            return isolated(self.staged, self.input.o, t, e);
+        }
+        let near = cluster::neighbours(self.lists, self.marks, self.input, e.slot, t.turns + 1);
+        if near.count == 0 {
+            return isolated(self.staged, self.input.o, t, e);
+        }
+        self.merge_into_nearest(t, e, near)
     }
-    t
+
+    // One turn: the first pending slot is taken off the queue and visited.
+    fn turn(&mut self, t: Turns, e: Entry) -> Turns
+        requires by_index { (t₀ : List ℕ) × of_run Between t₀ self.old t }
+        requires chosen { of_input Chosen self.old.input.now t.turns e.slot e.key }
+        ensures same { SameRun self.old self.new }
+        ensures turned { (t₀ : List ℕ) → of_run Between t₀ self.old t → of_run Between t₀ self.new result }
+        ensures turns { result.turns ≡ t.turns + 1 }
+    {
+        self.queue.set_key(e.slot as usize, queue::NONE);
+        let v = self.visit(t, e);
+        Turns {
+            turns: v.turns + 1,
+            ..v
+        }
+    }
+
+    // Until no slot is pending.
+    pub(crate) fn stage_2(&mut self, n: u32) -> Turns
+        requires { (t₀ : List ℕ) × of_work (of_input Entered self.old.input.now t₀) self.old n }
+        ensures same { SameRun self.old self.new }
+        ensures staged { let p = self.old.input.now in (t₀ : List ℕ) → of_work (of_input Entered p t₀) self.old n
+            → of_work
+            (Staged (p.w * p.h)
+            (stage2 (config_of p.o) p.w p.h (stage1 (config_of p.o) p.w p.h p.image.now)) t₀)
+            self.new n result.m }
+    {
+        self.queue.n = n as usize;
+        let largest = prepare_stage_2(self.lists, self.queue);
+        self.queue.build();
+        let mut t = Turns {
+            m: 0,
+            turns: 0,
+            largest,
+        };
+        while let Some(e) = self.queue.first() {
+            t = self.turn(t, e);
+        }
+        t
+    }
 }

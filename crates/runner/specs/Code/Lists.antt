@@ -1,10 +1,10 @@
--- The four lists of a builder, the parts of the work buffer beside them, and what a run is given.
+-- The four lists of a builder, and what a run has beside them.
 use Rattle.std.specs.Prelude.{◌≡◌, List, ℕ, length}
 use Rattle.rules.specs.Color.{RunnerConfig}
 use Rattle.runner.specs.declared.builder.Builder.{Builder}
 use Rattle.runner.specs.declared.input.Input.{Input}
 use Rattle.runner.specs.declared.input.Here.{Here}
-use Rattle.runner.specs.declared.stage2.Work.{Work}
+use Rattle.runner.specs.declared.stage2.Run.{Run}
 use Rattle.runner.specs.Types.{config_of}
 
 -- f of labels, links, table and ends
@@ -22,27 +22,6 @@ pub record SameLists (old new : Builder) : Type 0 where
   pub table_long : length new.table.now ≡ length old.table.now
   pub ends_long : length new.ends.now ≡ length old.ends.now
 
--- f of labels, links, table and ends, ends of the hole lists, queue, marks and staged outputs
-abbrev pub of_work : {A : Type 1} → (List ℕ → List ℕ → List ℕ → List ℕ → List ℕ → List ℕ → List ℕ → List ℕ → A)
-    → Builder → Work → A
-of_work f b w = of_lists f b w.hole_ends.now w.queue.numbers.now w.marks.now w.staged.now
-
--- f of the same, and of the number of slots in the queue
-abbrev pub of_slots : {A : Type 1} → (List ℕ → List ℕ → List ℕ → List ℕ → List ℕ → List ℕ → List ℕ → List ℕ → ℕ → A)
-    → Builder → Work → A
-of_slots f b w = of_work f b w w.queue.n
-
--- the same four slices are lent after a call, as long as before
-pub record SameWork (old new : Work) : Type 0 where
-  pub hole_ends : new.hole_ends.ghost_name ≡ old.hole_ends.ghost_name
-  pub queue : new.queue.numbers.ghost_name ≡ old.queue.numbers.ghost_name
-  pub marks : new.marks.ghost_name ≡ old.marks.ghost_name
-  pub staged : new.staged.ghost_name ≡ old.staged.ghost_name
-  pub hole_ends_long : length new.hole_ends.now ≡ length old.hole_ends.now
-  pub queue_long : length new.queue.numbers.now ≡ length old.queue.numbers.now
-  pub marks_long : length new.marks.now ≡ length old.marks.now
-  pub staged_long : length new.staged.now ≡ length old.staged.now
-
 -- f of settings, width, height and image
 abbrev pub of_input : {A : Type 1} → (RunnerConfig → ℕ → ℕ → List ℕ → A) → Input → A
 of_input f p = f (config_of p.o) p.w p.h p.image.now
@@ -50,3 +29,30 @@ of_input f p = f (config_of p.o) p.w p.h p.image.now
 -- f of the same, of the shift, and of a pixel's number, column and row
 abbrev pub of_here : {A : Type 1} → (RunnerConfig → ℕ → ℕ → List ℕ → ℕ → ℕ → ℕ → ℕ → A) → Here → A
 of_here f p = of_input f p.input.now p.input.now.shift p.at.i p.at.x p.at.y
+
+-- f of labels, links, table and ends, ends of the hole lists, queue, marks and staged outputs
+abbrev pub of_work : {A : Type 1} → (List ℕ → List ℕ → List ℕ → List ℕ → List ℕ → List ℕ → List ℕ → List ℕ → A)
+    → Run → A
+of_work f r = of_lists f r.lists.now r.hole_ends.now r.queue.now.numbers.now r.marks.now r.staged.now
+
+-- f of what is given, a list, the same eight, and the number of slots in the queue
+abbrev pub of_run : {A : Type 1}
+    → (RunnerConfig → ℕ → ℕ → List ℕ → List ℕ → List ℕ → List ℕ → List ℕ → List ℕ → List ℕ → List ℕ → List ℕ → List ℕ
+    → ℕ → A)
+    → List ℕ → Run → A
+of_run f t₀ r = of_work (of_input f r.input.now t₀) r r.queue.now.n
+
+-- the same slices are lent after a call, as long as before, and the same is given
+pub record SameRun (old new : Run) : Type 0 where
+  pub builder : new.lists.ghost_name ≡ old.lists.ghost_name
+  pub lists : SameLists old.lists.now new.lists.now
+  pub hole_ends : new.hole_ends.ghost_name ≡ old.hole_ends.ghost_name
+  pub queue : new.queue.ghost_name ≡ old.queue.ghost_name
+  pub numbers : new.queue.now.numbers.ghost_name ≡ old.queue.now.numbers.ghost_name
+  pub marks : new.marks.ghost_name ≡ old.marks.ghost_name
+  pub staged : new.staged.ghost_name ≡ old.staged.ghost_name
+  pub hole_ends_long : length new.hole_ends.now ≡ length old.hole_ends.now
+  pub numbers_long : length new.queue.now.numbers.now ≡ length old.queue.now.numbers.now
+  pub marks_long : length new.marks.now ≡ length old.marks.now
+  pub staged_long : length new.staged.now ≡ length old.staged.now
+  pub input : new.input.now ≡ old.input.now
