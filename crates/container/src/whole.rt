@@ -32,9 +32,7 @@ impl Sheet<'_> {
         }
     }
 
-    // Walks from several pixels, most links at most, until one of the walks stops. In a caller its places would not all
-    // stay in registers.
-    #[inline(never)]
+    // Walks from several pixels, most links at most, until one of the walks stops.
     pub(crate) fn walk<const N: usize>(self, q: u32, r: u32, from: [u32; N], most: u32) -> Walk<N>
         ensures moved { result.moved ≤ most }
         ensures leads { let s = self.entry in (i : ℕ) → i < N

@@ -327,8 +327,7 @@ fn take_pixels(b: &mut Builder, here: Here, limits: &[u8; 16], s: Slots) -> Step
     }
 }
 
-// All pixels, row by row. Not inlined: beside stage 2 in one function its loop would lose registers.
-#[inline(never)]
+// All pixels, row by row.
 pub(crate) fn stage_1(b: &mut Builder, input: &Input) -> Slots
     requires { of_lists (Blank (input.now.w * input.now.h)) b.old }
     ensures loans { SameLists b.old b.new }
