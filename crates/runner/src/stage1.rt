@@ -317,7 +317,7 @@ fn take_pixels(b: &mut Builder, here: Here, limits: &[u8; 16], s: Slots) -> Step
         };
     }
     let k = b.labels[(here.at.i - 1) as usize];
-    spans::add_span(b, here.input.image, k, here.at, n);
+    spans::add_span(b, here, k, n);
     Step {
         slots: s,
         pixels: n,
