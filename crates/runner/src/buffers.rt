@@ -23,7 +23,7 @@ pub struct Buffers<'a> {
 fn bad_shift(shift: i32) -> bool
     ensures { result ≡ bad_shift shift }
 {
-    !((0 <= shift) & (shift <= 7))
+    !(0..=7).contains(&shift)
 }
 
 impl<'a> Buffers<'a> {

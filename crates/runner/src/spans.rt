@@ -12,7 +12,7 @@ ghost use Rattle.runner.specs.Code.Lists.{of_lists, SameLists};
 
 use super::bound::BoundingRect;
 use super::builder::Builder;
-use super::input::{Here, Input, Pixel};
+use super::input::{Here, Input};
 use super::slot::Head;
 use super::{builder, slot};
 use crate::RunnerConfig;
@@ -43,11 +43,13 @@ fn sum_colors(bytes: &[u8]) -> ColorSum
 }
 
 // n pixels from a pixel on are added to cluster k.
-pub(crate) fn add_span(b: &mut Builder, image: &[u8], k: u32, at: Pixel, n: u32)
-    requires { of_lists (CanAddSpan image.now k at.i at.x at.y n) b.old }
+pub(crate) fn add_span(b: &mut Builder, here: Here, k: u32, n: u32)
+    requires { of_lists (CanAddSpan here.input.now.image.now k here.at.i here.at.x here.at.y n) b.old }
     ensures loans { SameLists b.old b.new }
-    ensures added { of_lists (of_lists (AddedSpan image.now k at.i at.x at.y n) b.old) b.new }
+    ensures added { let q = here.entry in
+        of_lists (of_lists (AddedSpan q.input.now.image.now k q.at.i q.at.x q.at.y n) b.old) b.new }
 {
+    let Here { input, at } = here;
     let labels = &mut *b.labels;
     let links = &mut *b.links;
     let table = &mut *b.table;
@@ -62,7 +64,7 @@ pub(crate) fn add_span(b: &mut Builder, image: &[u8], k: u32, at: Pixel, n: u32)
             right: at.x + n,
             bottom: at.y + 1,
         },
-        sum: sum_colors(&image[4 * at.i as usize..4 * (at.i + n) as usize]),
+        sum: sum_colors(&input.image[4 * at.i as usize..4 * (at.i + n) as usize]),
     };
     builder::link_after(links, s.count, ends[k as usize], at.i + 1);
     chain_links(links, at.i, n - 1);

@@ -93,16 +93,13 @@ struct Target {
 }
 
 impl<'a> Seen<'a> {
-    // What is seen from a pixel. It is on the image, so its own colour is never none.
-    #[tactic(auto, using(crate::proofs::Spots::own_pixels))]
+    // What is seen from a pixel.
     fn of(here: Here<'a>) -> Seen<'a>
         ensures { result.here ≡ here.entry }
     {
-        let Here { input, at } = here;
-        let own = color::pixel_at(input.image, input.w, input.h, at.x, at.y).unwrap();
         Seen {
             here,
-            own,
+            own: here.input.color_at(here.at.i),
             left: here.left(),
             up: here.up(),
             up_left: here.up_left(),
@@ -320,7 +317,7 @@ fn take_pixels(b: &mut Builder, here: Here, limits: &[u8; 16], s: Slots) -> Step
         };
     }
     let k = b.labels[(here.at.i - 1) as usize];
-    spans::add_span(b, here.input.image, k, here.at, n);
+    spans::add_span(b, here, k, n);
     Step {
         slots: s,
         pixels: n,
