@@ -18,7 +18,7 @@ impl Sheet<'_> {
     fn walk_ends(self, v: u32, q: u32, r: u32) -> bool
         ensures { result ≡ false → (0 < v) × (v ≤ self.entry.size) }
     {
-        (v == 0) | (self.size < v) | (v == q) | (v == r)
+        self.is_off(v) | (v == q) | (v == r)
     }
 
     // Each of several places goes one link on.
@@ -132,7 +132,7 @@ impl Numbered<'_> {
             return other;
         }
         let v = sheet.list(sheet.outputs[m - back]).first;
-        if (v == 0) | (sheet.size < v) {
+        if sheet.is_off(v) {
             return other;
         }
         v
