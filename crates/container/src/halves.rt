@@ -3,6 +3,7 @@ ghost use Rattle.std.specs.Prelude.{◌≡◌, ◌+◌, ◌*◌, ◌/◌, ◌≤
 ghost use Rattle.rules.specs.Picture.{paint_pixel};
 ghost use Rattle.rules.specs.Paint.{reads};
 ghost use Rattle.color.specs.Colors.{color_of};
+ghost use Rattle.container.specs.Code.Checked.{Listed};
 ghost use Rattle.container.specs.Code.Leads.{Leads};
 ghost use Rattle.container.specs.Code.Stretch.{paint_along};
 
@@ -22,7 +23,7 @@ pub(crate) fn paint_pixel(picture: &mut [u8], p: usize, c: Color)
 impl Sheet<'_> {
     // Where the links of a list lead: behind its last pixel.
     pub(crate) fn look(self, list: PixelList) -> u32
-        requires { T (reads self.size self.links.now list.first list.count) }
+        requires { Listed self list }
         ensures { let s = self.entry in Leads s.size s.links.now list.first list.count result }
     {
         let mut at = list.first;
@@ -69,9 +70,9 @@ impl Sheet<'_> {
         c: Color,
     ) -> u32
         requires long { 4 * self.size ≤ length picture.old }
-        requires list { T (reads self.size self.links.now list.first list.count) }
+        requires list { Listed self list }
         requires middle { Leads self.size self.links.now list.first (list.count / 2) mid }
-        requires ahead { T (reads self.size self.links.now ahead.first ahead.count) }
+        requires ahead { Listed self ahead }
         ensures ahead { let s = self.entry in Leads s.size s.links.now ahead.first ahead.count result }
         ensures painted { let s = self.entry in picture.new
             ≡ paint_along (color_of c) s.links.now list.first list.count picture.old }

@@ -6,7 +6,7 @@ ghost use Rattle.rules.specs.Paint as rules;
 ghost use Rattle.refusal.specs.Refusal.{answer_of};
 ghost use Rattle.color.specs.Colors.{color_of, sum_of};
 ghost use Rattle.container.specs.Code.Leads.{Leads};
-ghost use Rattle.container.specs.Code.Checked.{entries_answer, Passed, EntriesPass};
+ghost use Rattle.container.specs.Code.Checked.{entries_answer, Listed, Passed, EntriesPass};
 ghost use Rattle.container.specs.Code.Stretch.{FirstHalf};
 
 use crate::checked::Sheet;
@@ -41,7 +41,7 @@ impl Sheet<'_> {
     {
         let mut at = list.first;
         for _step in 0..list.count {
-            if (at == 0) | (self.size < at) {
+            if self.is_off(at) {
                 return false;
             }
             at = self.links[(at - 1) as usize];
@@ -97,7 +97,7 @@ impl Sheet<'_> {
     fn first_half(self, entries: &[u32]) -> PixelList
         requires { EntriesPass self entries.now }
         ensures half { FirstHalf self.entry.table.now entries.now result }
-        ensures read { let s = self.entry in T (rules.reads s.size s.links.now result.first result.count) }
+        ensures listed { Listed self.entry result }
     {
         let [.., k] = entries else {
             return PixelList { first: 0, count: 0 };
@@ -116,7 +116,7 @@ impl Sheet<'_> {
         requires passed { Passed self k }
         requires mid { let s = self in Leads s.size s.links.now
             (rules.slot_number s.table.now k 0) (rules.slot_number s.table.now k 1 / 2) mid }
-        requires ahead { let s = self in T (rules.reads s.size s.links.now ahead.first ahead.count) }
+        requires ahead { Listed self ahead }
         ensures ahead { let s = self.entry in Leads s.size s.links.now ahead.first ahead.count result }
         ensures painted { let s = self.entry in picture.new
             ≡ rules.paint_slot s.links.now s.table.now k picture.old }

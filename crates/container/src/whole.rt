@@ -1,6 +1,6 @@
 // Whether the last entry's list is all pixels of the sheet: three stretches of it are walked at once, so that no link
 // waits for another's.
-ghost use Rattle.std.specs.Prelude.{◌≡◌, true, false, ℕ, ◌-◌, ◌*◌, ◌≤◌, ◌<◌, length, get_or};
+ghost use Rattle.std.specs.Prelude.{◌≡◌, true, false, ℕ, ◌-◌, ◌*◌, ◌≤◌, ◌<◌, length, get_or, IfSome};
 ghost use Rattle.container.specs.Code.Leads.{Leads};
 
 use crate::checked::Sheet;
@@ -18,7 +18,7 @@ impl Sheet<'_> {
     fn walk_ends(self, v: u32, q: u32, r: u32) -> bool
         ensures { result ≡ false → (0 < v) × (v ≤ self.entry.size) }
     {
-        (v == 0) | (self.size < v) | (v == q) | (v == r)
+        self.is_off(v) | (v == q) | (v == r)
     }
 
     // Each of several places goes one link on.
@@ -119,23 +119,18 @@ impl Stops<'_> {
 }
 
 impl Numbered<'_> {
-    // The first pixel of the entry back from the end, plus one, where there are three entries and it is on the sheet,
-    // else other.
-    fn stretch_start(self, back: usize, other: u32) -> u32
-        requires back { (0 < back) × (back ≤ 3) }
-        requires other { (0 < other) × (other ≤ self.sheet.size) }
-        ensures { (0 < result) × (result ≤ self.entry.sheet.size) }
+    // The first pixel of the list of the entry back from the end, plus one; nothing where there is no such entry, or no
+    // such pixel.
+    fn stretch_start(self, back: usize) -> Option<u32>
+        ensures { IfSome result (λ v. (0 < v) × (v ≤ self.entry.sheet.size)) }
     {
         let sheet = self.sheet;
-        let m = sheet.outputs.len();
-        if m < 3 {
-            return other;
+        let k = sheet.outputs.get(sheet.outputs.len().checked_sub(back)?)?;
+        let v = sheet.list(*k).first;
+        if sheet.is_off(v) {
+            return None;
         }
-        let v = sheet.list(sheet.outputs[m - back]).first;
-        if (v == 0) | (sheet.size < v) {
-            return other;
-        }
-        v
+        Some(v)
     }
 
     // True only if size links from first lead to 0.
@@ -145,8 +140,8 @@ impl Numbered<'_> {
         let sheet = self.sheet;
         Stops {
             sheet,
-            q: self.stretch_start(2, sheet.size / 8 + 1),
-            r: self.stretch_start(3, sheet.size / 2 + 1),
+            q: self.stretch_start(2).unwrap_or(sheet.size / 8 + 1),
+            r: self.stretch_start(3).unwrap_or(sheet.size / 2 + 1),
         }
         .is_whole(first)
     }

@@ -6,6 +6,7 @@ use Rattle.rules.specs.Color.{has_average}
 use Rattle.rules.specs.Layout.{first_pixel_place, pixel_count_place}
 use Rattle.rules.specs.Paint.{Painted, reads, slot_number, slot_residue}
 use Rattle.image.specs.declared.Clusters.{Clusters}
+use Rattle.image.specs.declared.PixelList.{PixelList}
 use Rattle.container.specs.declared.checked.Sheet.{Sheet}
 
 -- the sheet is that of the clusters, and bytes, a length, is four bytes for each pixel
@@ -21,6 +22,10 @@ pub record IsSheetOf (clusters : Clusters) (bytes : ℕ) (sheet : Sheet) : Type 
 -- what the checks of its entries answer
 abbrev pub entries_answer : Sheet → ℕ
 entries_answer s = rules.entries_answer s.size s.n s.links.now s.table.now s.outputs.now (length s.outputs.now)
+
+-- the pixels of a list can be listed on the sheet
+abbrev pub Listed : Sheet → PixelList → Type 0
+Listed s list = T (reads s.size s.links.now list.first list.count)
 
 -- what checks 8, 9 and 10 have shown of slot k, as far as painting it asks
 pub record Passed (s : Sheet) (k : ℕ) : Type 0 where
