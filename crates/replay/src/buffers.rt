@@ -23,11 +23,7 @@ impl Pattern for u8 {
 
 // A buffer of this length with the pattern in it.
 pub(crate) fn filled<T: Pattern>(alloc: Global, length: usize) -> Result<Vec<T>, AllocError> {
-    let mut items = Vec::with_capacity(alloc, length)?;
-    for place in 0..length {
-        items.push(T::at(place))?;
-    }
-    Ok(items)
+    (0..length).map(|place| T::at(place)).collect(alloc)
 }
 
 // Whether the items are those that stand from a place on before a call.
@@ -38,28 +34,19 @@ pub(crate) fn are_filled<T: Pattern>(items: &[T], from: usize) -> bool {
         .all(|(item, place)| *item == T::at(place))
 }
 
-// How many numbers each buffer of a sheet has.
-#[derive(Clone, Copy)]
-pub(crate) struct Lengths {
-    pub labels: usize,
-    pub links: usize,
-    pub table: usize,
-    pub outputs: usize,
+// What there is of each list of a sheet: its length, its buffer, or the numbers that are recorded of it.
+#[derive(Clone, Copy, Drop)]
+pub(crate) struct Lists<T> {
+    pub labels: T,
+    pub links: T,
+    pub table: T,
+    pub outputs: T,
 }
 
-// The buffers of a sheet.
-#[derive(Drop)]
-pub(crate) struct OwnedBuffers {
-    pub labels: Vec<u32>,
-    pub links: Vec<u32>,
-    pub table: Vec<u32>,
-    pub outputs: Vec<u32>,
-}
-
-impl OwnedBuffers {
+impl Lists<Vec<u32>> {
     // Buffers of these lengths with the pattern in them.
-    pub fn filled(alloc: Global, lengths: Lengths) -> Result<Self, AllocError> {
-        Ok(OwnedBuffers {
+    pub fn filled(alloc: Global, lengths: Lists<usize>) -> Result<Self, AllocError> {
+        Ok(Lists {
             labels: filled(alloc, lengths.labels)?,
             links: filled(alloc, lengths.links)?,
             table: filled(alloc, lengths.table)?,

@@ -2,7 +2,7 @@
 ghost use Rattle.std.specs.Prelude.{◌≤◌};
 ghost use Rattle.replay.specs.declared.cases.TheConstants.{LARGEST};
 
-use crate::buffers::{Lengths, OwnedBuffers, are_filled, filled};
+use crate::buffers::{Lists, are_filled, filled};
 use crate::reading::{Numbers, Reader};
 use crate::sheets::{SLOT, is_picture, is_sheet};
 use crate::tally::Tally;
@@ -25,12 +25,9 @@ struct Case<'a> {
     size: Size,
     image: &'a [u8],
     counts: Counts,
-    labels: Numbers<'a>,
-    links: Numbers<'a>,
-    table: Numbers<'a>,
-    outputs: Numbers<'a>,
+    lists: Lists<Numbers<'a>>,
     picture: &'a [u8],
-    ghost is_small: { labels.count ≤ LARGEST },
+    ghost is_small: { lists.labels.count ≤ LARGEST },
 }
 
 // Whether a buffer begins with these numbers, and was left alone after them.
@@ -61,23 +58,25 @@ impl<'a> Case<'a> {
             size,
             image,
             counts,
-            labels: reader.numbers(area)?,
-            links: reader.numbers(area)?,
-            table: reader.numbers(SLOT * counts.n as usize)?,
-            outputs: reader.numbers(counts.m as usize)?,
+            lists: Lists {
+                labels: reader.numbers(area)?,
+                links: reader.numbers(area)?,
+                table: reader.numbers(SLOT * counts.n as usize)?,
+                outputs: reader.numbers(counts.m as usize)?,
+            },
             picture: reader.bytes(4 * area)?,
         })
     }
 
     // The call of the case.
     fn trial(&self, call: Call) -> Trial<'a> {
-        let area = self.labels.len();
+        let area = self.lists.labels.len();
         Trial {
             call,
             config: self.config,
             size: self.size,
             image: self.image,
-            lengths: Lengths {
+            lengths: Lists {
                 labels: area + MARGIN,
                 links: area + MARGIN,
                 table: SLOT * (area + 1) + MARGIN,
@@ -89,11 +88,11 @@ impl<'a> Case<'a> {
     }
 
     // Whether the buffers hold the sheet that is recorded.
-    fn is_run(&self, buffers: &OwnedBuffers) -> bool {
-        holds(&buffers.labels, self.labels)
-            & holds(&buffers.links, self.links)
-            & holds(&buffers.table, self.table)
-            & holds(&buffers.outputs, self.outputs)
+    fn is_run(&self, buffers: &Lists<Vec<u32>>) -> bool {
+        holds(&buffers.labels, self.lists.labels)
+            & holds(&buffers.links, self.lists.links)
+            & holds(&buffers.table, self.lists.table)
+            & holds(&buffers.outputs, self.lists.outputs)
     }
 
     // Whether a picture is the recorded one.
@@ -102,7 +101,7 @@ impl<'a> Case<'a> {
     }
 
     // Whether painting from the buffers of a run gives the picture that is recorded.
-    fn is_painted(&self, alloc: Global, buffers: &OwnedBuffers) -> Result<bool, AllocError> {
+    fn is_painted(&self, alloc: Global, buffers: &Lists<Vec<u32>>) -> Result<bool, AllocError> {
         let mut picture = filled(alloc, self.picture.len())?;
         let clusters = buffers.clusters(self.size, self.counts);
         let answer = container::to_color_image(clusters, &mut picture);
@@ -110,9 +109,9 @@ impl<'a> Case<'a> {
     }
 
     // Whether storing from the buffers of a run gives their numbers.
-    fn is_kept(&self, alloc: Global, buffers: &OwnedBuffers) -> Result<bool, AllocError> {
+    fn is_kept(&self, alloc: Global, buffers: &Lists<Vec<u32>>) -> Result<bool, AllocError> {
         let numbers = 4
-            + 2 * self.labels.len()
+            + 2 * self.lists.labels.len()
             + 2 * self.counts.n as usize
             + self.counts.m as usize;
         let mut sheet = filled(alloc, 2 * numbers)?;

@@ -1,6 +1,6 @@
 // Painting, rows and storing at the edges of their refusals, from buffers that no run made: the answer, and that a
 // refused call changes nothing.
-use crate::buffers::{Lengths, OwnedBuffers, are_filled, filled};
+use crate::buffers::{Lists, are_filled, filled};
 use crate::sheets::is_sheet;
 use crate::tally::Tally;
 use image::{Counts, Size};
@@ -45,7 +45,7 @@ struct Change {
 struct SheetEdge {
     size: Size,
     counts: Counts,
-    lengths: Lengths,
+    lengths: Lists<usize>,
     bytes: usize,
     changes: [Option<Change>; 2],
     expected: Result<usize, Refusal>,
@@ -55,7 +55,7 @@ struct SheetEdge {
 const PAINT: SheetEdge = SheetEdge {
     size: Size { w: 3, h: 2 },
     counts: Counts { n: 2, m: 2 },
-    lengths: Lengths {
+    lengths: Lists {
         labels: 6,
         links: 6,
         table: 147,
@@ -84,7 +84,7 @@ impl SheetEdge {
 
     // The same with buffers of these lengths.
     fn lent(self, labels: usize, links: usize, table: usize, outputs: usize) -> Self {
-        let lengths = Lengths {
+        let lengths = Lists {
             labels,
             links,
             table,
@@ -261,7 +261,7 @@ fn put(numbers: &mut [u32], at: usize, value: u32) {
 }
 
 // Makes a change.
-fn set(buffers: &mut OwnedBuffers, change: Change) {
+fn set(buffers: &mut Lists<Vec<u32>>, change: Change) {
     let Change { buffer, at, value } = change;
     match buffer {
         Buffer::Labels => put(&mut buffers.labels, at, value),
@@ -287,8 +287,8 @@ fn shows(picture: &[u8], painted: usize) -> bool {
 
 impl SheetEdge {
     // The sheet that the call is lent.
-    fn buffers(self, alloc: Global) -> Result<OwnedBuffers, AllocError> {
-        let mut buffers = OwnedBuffers {
+    fn buffers(self, alloc: Global) -> Result<Lists<Vec<u32>>, AllocError> {
+        let mut buffers = Lists {
             labels: vec![in alloc; 1; self.lengths.labels]?,
             links: (0..self.lengths.links).map(link_at).collect(alloc)?,
             table: (0..self.lengths.table).map(slot_at).collect(alloc)?,

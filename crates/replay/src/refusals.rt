@@ -1,5 +1,5 @@
 // The refusals of `run` and `run_and_paint` at their edges: the answer, and that a refused call changes nothing.
-use crate::buffers::{Lengths, are_filled, filled};
+use crate::buffers::{Lists, are_filled, filled};
 use crate::tally::Tally;
 use crate::trials::{Call, Trial};
 use color::Color;
@@ -14,7 +14,7 @@ struct RunEdge {
     shift: i32,
     size: Size,
     image: usize,
-    lengths: Lengths,
+    lengths: Lists<usize>,
     work: usize,
     expected: Result<(), Refusal>,
 }
@@ -24,7 +24,7 @@ const WHOLE: RunEdge = RunEdge {
     shift: 4,
     size: Size { w: 3, h: 2 },
     image: 24,
-    lengths: Lengths {
+    lengths: Lists {
         labels: 6,
         links: 6,
         table: 147,
@@ -37,7 +37,7 @@ const WHOLE: RunEdge = RunEdge {
 // The same size, with nothing lent.
 const EMPTY: RunEdge = RunEdge {
     image: 0,
-    lengths: Lengths {
+    lengths: Lists {
         labels: 0,
         links: 0,
         table: 0,
@@ -66,7 +66,7 @@ impl RunEdge {
 
     // The same with buffers of these lengths.
     fn lent(self, labels: usize, links: usize, table: usize, outputs: usize, work: usize) -> Self {
-        let lengths = Lengths {
+        let lengths = Lists {
             labels,
             links,
             table,

@@ -1,5 +1,5 @@
 // A call of `run` or of `run_and_paint` in buffers that hold the pattern.
-use crate::buffers::{Lengths, OwnedBuffers, are_filled, filled};
+use crate::buffers::{Lists, are_filled, filled};
 use image::{Counts, Size};
 use refusal::Refusal;
 use runner::{Buffers, RunnerConfig};
@@ -19,7 +19,7 @@ pub(crate) struct Trial<'a> {
     pub config: RunnerConfig,
     pub size: Size,
     pub image: &'a [u8],
-    pub lengths: Lengths,
+    pub lengths: Lists<usize>,
     pub work: usize,
     pub picture: usize,
 }
@@ -28,7 +28,7 @@ pub(crate) struct Trial<'a> {
 #[derive(Drop)]
 pub(crate) struct Outcome {
     pub answer: Result<Counts, Refusal>,
-    pub buffers: OwnedBuffers,
+    pub buffers: Lists<Vec<u32>>,
     pub work: Vec<u32>,
     pub picture: Vec<u8>,
 }
@@ -36,7 +36,7 @@ pub(crate) struct Outcome {
 impl Trial<'_> {
     // Makes the call. `run` is not lent the picture, which lies beside the buffers all the same.
     pub fn make(self, alloc: Global) -> Result<Outcome, AllocError> {
-        let mut buffers = OwnedBuffers::filled(alloc, self.lengths)?;
+        let mut buffers = Lists::filled(alloc, self.lengths)?;
         let mut work = filled(alloc, self.work)?;
         let mut picture = filled(alloc, self.picture)?;
         let mut lent = Buffers {

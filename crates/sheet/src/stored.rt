@@ -56,25 +56,19 @@ fn put_all(destination: &mut [u8], numbers: &[u32])
     }
 }
 
-// Writes two numbers for each of 0 .. count - 1, which fill the destination.
+// Writes a pair of numbers for each of 0 .. count - 1, which fill the destination.
 #[tactic(auto, unfolding(rules::specs::Stored::stored_bytes), using(crate::proofs::Bytes::put_laws))]
-fn put_pairs<F: Fn(usize) -> u32, G: Fn(usize) -> u32>(
-    destination: &mut [u8],
-    count: usize,
-    first: F,
-    second: G,
-)
+fn put_pairs<F: Fn(usize) -> (u32, u32)>(destination: &mut [u8], count: usize, pair: F)
     requires exact { length destination.old ≡ 4 * count }
-    requires first { (i : ℕ) → i < count → F.pre first i × ((x : ℕ) → F.post first i x → x ≤ 65535) }
-    requires second { (i : ℕ) → i < count → G.pre second i × ((x : ℕ) → G.post second i x → x ≤ 65535) }
-    ensures { (f g : ℕ → ℕ)
-        → ((i x : ℕ) → i < count → F.post first i x → x ≡ f i)
-        → ((i x : ℕ) → i < count → G.post second i x → x ≡ g i)
+    requires small { (i : ℕ) → i < count → F.pre pair i
+        × ((x : ℕ × ℕ) → F.post pair i x → (x.0 ≤ 65535) × (x.1 ≤ 65535)) }
+    ensures { (f g : ℕ → ℕ) → ((i : ℕ) (x : ℕ × ℕ) → i < count → F.post pair i x → x ≡ (f i, g i))
         → destination.new ≡ stored_bytes (pairs f g count) }
 {
     for i in 0..count {
-        put(destination, 2 * i, first(i));
-        put(destination, 2 * i + 1, second(i));
+        let (first, second) = pair(i);
+        put(destination, 2 * i, first);
+        put(destination, 2 * i + 1, second);
     }
 }
 
@@ -185,13 +179,10 @@ impl<'a> Stored<'a> {
         let (of_pixels, rest) = rest.split_at_mut(4 * pixels);
         let (of_slots, of_outputs) = rest.split_at_mut(4 * n);
         put_all(of_sheet, &[size.w, size.h, counts.n, counts.m]);
-        put_pairs(of_pixels, pixels, |p| labels[p], |p| links[p]);
-        put_pairs(
-            of_slots,
-            n,
-            |k| slots[k][layout::FIRST_PIXEL],
-            |k| slots[k][layout::PIXEL_COUNT],
-        );
+        put_pairs(of_pixels, pixels, |p| (labels[p], links[p]));
+        put_pairs(of_slots, n, |k| {
+            (slots[k][layout::FIRST_PIXEL], slots[k][layout::PIXEL_COUNT])
+        });
         put_all(of_outputs, &outputs[..counts.m as usize]);
     }
 }

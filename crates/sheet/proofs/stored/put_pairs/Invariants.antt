@@ -8,6 +8,6 @@ use Rattle.sheet.proofs.stored.put_pairs.Given as goal
 abbrev pub invariant-loop-i : goal.invariant-loop-i
 invariant-loop-i g l = record {
   long : length l.destination ≡ length l.initial.destination;
-  written : (f h : ℕ → ℕ) → ((i x : ℕ) → i < l.count → goal.F-post g l.first i x → x ≡ f i) → ((i x : ℕ) → i < l.count → goal.G-post g l.second i x → x ≡ h i)
+  written : (f h : ℕ → ℕ) → ((i : ℕ) (x : ℕ × ℕ) → i < l.count → goal.F-post g l.pair i x → x ≡ (f i, h i))
       → l.destination ≡ sets l.initial.destination 0 (stored_bytes (pairs f h l.i));
 }

@@ -1,4 +1,4 @@
-use mathlib.Core.Path.{◌≡◌, ◌∙◌}
+use mathlib.Core.Path.{◌≡◌, refl, ◌∙◌}
 use Prim.Native.Nat.{ℕ, ◌+◌, ◌*◌, ◌≤◌, ◌<◌}
 use native.Mathlib.Omega.{arith}
 use Rattle.std.proofs.Common.{rules}
@@ -30,32 +30,21 @@ slot : (c : Start) (k : ℕ) → (let s = c.args.self.clusters in k < s.counts.n
 unfolding slot_numbers
 slot c = pair-small (λ k. slot_number c.args.self.clusters.table.now k 0) (λ k. slot_number c.args.self.clusters.table.now k 1) c.args.self.clusters.counts.n (small c).slots
 
--- a place of a slot, read from the parts of the table
-read : (table : List ℕ) (place : ℕ) {slots : List (List ℕ)} {k : ℕ} → place < slot_width → slots ≡ first_chunks slot_width (length table / slot_width) table → length slots ≡ length table / slot_width
-    → k < length slots → get_or (get_or slots k []) place 0 ≡ slot_number table k place
-read table place {slots} {k} m e n l = rw e (in_slot table (length table / slot_width) k place [] (omega (arith, n, l)) m)
+-- first pixel and count of a slot, read from the parts of the table
+read : (table : List ℕ) {slots : List (List ℕ)} {n k : ℕ} {x : ℕ × ℕ} → slots ≡ first_chunks slot_width (length table / slot_width) table → slot_width * n ≤ length table → k < n
+    → x ≡ (get_or (get_or slots k []) 0 0, get_or (get_or slots k []) 1 0) → x ≡ (slot_number table k 0, slot_number table k 1)
+read table {slots} {n} {k} e l m p = p ∙ rw (e, at 0 (omega arith), at 1 (omega arith)) refl
+  where
+    at : (place : ℕ) → place < slot_width → get_or (get_or (first_chunks slot_width (length table / slot_width) table) k []) place 0 ≡ slot_number table k place
+    at place h = in_slot table (length table / slot_width) k place [] (omega (arith, l, m)) h
 
-pub put_pairs-requires-clause-first : goal.put_pairs-requires-clause-first
-put_pairs-requires-clause-first c = λ p l. (search rules, λ x q. let e : x ≡ get_or c.args.self.labels.now p 0 = search rules in rw e (pixel (goal.at.put_pairs-requires-clause-first c).Start p l).0)
+pub put_pairs-requires-clause-small : goal.put_pairs-requires-clause-small
+put_pairs-requires-clause-small c = λ p l. (search rules, λ x q. let e : x ≡ (get_or c.args.self.labels.now p 0, get_or c.args.self.clusters.links.now p 0) = search rules in rw e (pixel (goal.at.put_pairs-requires-clause-small c).Start p l))
 
-pub put_pairs-requires-clause-second : goal.put_pairs-requires-clause-second
-put_pairs-requires-clause-second c = λ p l. (search rules, λ x q. let e : x ≡ get_or c.args.self.clusters.links.now p 0 = search rules in rw e (pixel (goal.at.put_pairs-requires-clause-second c).Start p l).1)
-
-pub put_pairs-requires-2-clause-first : goal.put_pairs-requires-2-clause-first
-put_pairs-requires-2-clause-first c = λ k l.
-    let i : k < length c.as_chunks.result.0.now = omega (arith, c.as_chunks.ensures.front_len, c.args.self.can_store.table_fits) in (
-      search rules,
-      λ x q. let e : x ≡ get_or (get_or c.as_chunks.result.0.now k []) 0 0 = search rules in
-          rw (e, read c.args.self.clusters.table.now 0 (omega arith) c.as_chunks.ensures.front c.as_chunks.ensures.front_len i) (slot (goal.at.put_pairs-requires-2-clause-first c).Start k l).0,
-    )
-
-pub put_pairs-requires-2-clause-second : goal.put_pairs-requires-2-clause-second
-put_pairs-requires-2-clause-second c = λ k l.
-    let i : k < length c.as_chunks.result.0.now = omega (arith, c.as_chunks.ensures.front_len, c.args.self.can_store.table_fits) in (
-      search rules,
-      λ x q. let e : x ≡ get_or (get_or c.as_chunks.result.0.now k []) 1 0 = search rules in
-          rw (e, read c.args.self.clusters.table.now 1 (omega arith) c.as_chunks.ensures.front c.as_chunks.ensures.front_len i) (slot (goal.at.put_pairs-requires-2-clause-second c).Start k l).1,
-    )
+pub put_pairs-requires-2-clause-small : goal.put_pairs-requires-2-clause-small
+put_pairs-requires-2-clause-small c = λ k l.
+    let i : k < length c.as_chunks.result.0.now = omega (arith, c.as_chunks.ensures.front_len, c.args.self.can_store.table_fits) in
+    (search rules, λ x q. rw (read c.args.self.clusters.table.now {x = x} c.as_chunks.ensures.front c.args.self.can_store.table_fits l (search rules)) (slot (goal.at.put_pairs-requires-2-clause-small c).Start k l))
 
 pub put_all-requires-2-clause-exact : goal.put_all-requires-2-clause-exact
 put_all-requires-2-clause-exact c = omega (arith, exact (goal.at.put_all-requires-2-clause-exact c).Start, c.split_at_mut-of_sheet.ensures.back_len, c.split_at_mut-of_pixels.ensures.back_len, c.split_at_mut-of_slots.ensures.back_len, c.args.self.can_store.outputs-fit, length-take {A = ℕ})
@@ -63,10 +52,6 @@ put_all-requires-2-clause-exact c = omega (arith, exact (goal.at.put_all-require
 pub returns : goal.returns
 unfolding pixel_numbers slot_numbers
 returns c = let s = c.args.self.clusters in
-    let e = c.put_pairs.ensures (λ p. get_or c.args.self.labels.now p 0) (λ p. get_or s.links.now p 0) (λ p x l q. search rules) (λ p x l q. search rules) in
-    let f = c.put_pairs-2.ensures (λ k. slot_number s.table.now k 0) (λ k. slot_number s.table.now k 1)
-    (λ k x l q. let i : k < length c.as_chunks.result.0.now = omega (arith, c.as_chunks.ensures.front_len, c.args.self.can_store.table_fits) in
-    let e : x ≡ get_or (get_or c.as_chunks.result.0.now k []) 0 0 = search rules in e ∙ read s.table.now 0 (omega arith) c.as_chunks.ensures.front c.as_chunks.ensures.front_len i)
-    (λ k x l q. let i : k < length c.as_chunks.result.0.now = omega (arith, c.as_chunks.ensures.front_len, c.args.self.can_store.table_fits) in
-    let e : x ≡ get_or (get_or c.as_chunks.result.0.now k []) 1 0 = search rules in e ∙ read s.table.now 1 (omega arith) c.as_chunks.ensures.front c.as_chunks.ensures.front_len i) in
+    let e = c.put_pairs.ensures (λ p. get_or c.args.self.labels.now p 0) (λ p. get_or s.links.now p 0) (λ p x l q. search rules) in
+    let f = c.put_pairs-2.ensures (λ k. slot_number s.table.now k 0) (λ k. slot_number s.table.now k 1) (λ k x l q. read s.table.now c.as_chunks.ensures.front c.args.self.can_store.table_fits l (search rules)) in
     cc (c.args.self.size, c.put_all.ensures, e, f, c.put_all-2.ensures, stored-parts s.size.w s.size.h c.args.self.labels.now s.links.now s.table.now s.outputs.now s.counts.n s.counts.m)
