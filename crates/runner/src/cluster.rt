@@ -40,7 +40,7 @@ impl Nearest {
         ensures { result ≡ with_neighbour self l d }
     {
         let n = self.count + 1;
-        if self.count == 0 || (d, l) < (self.diff, self.target) {
+        if self.count == 0 || d < self.diff || (d == self.diff && l < self.target) {
             return Nearest {
                 count: n,
                 target: l,
