@@ -18,6 +18,9 @@ use Rattle.rules.specs.State.{State}
 use Rattle.rules.specs.Stage1.{color_at, label_at}
 use Rattle.rules.proofs.Pixels.{pixel-at}
 use Rattle.rules.specs.Code.Bounds.{count_bound}
+use Rattle.color.specs.Colors.{color_of, option_of}
+use Rattle.color.specs.declared.Color as declared
+use Rattle.std.specs.Prelude.{Option as Maybe, Some, None}
 use Rattle.runner.specs.Code.Given.{Given, Spot}
 use Rattle.runner.proofs.Places.{place_in}
 
@@ -129,6 +132,18 @@ module _ {w h i x y : ℕ} (image : List ℕ) (S : Spot w h i x y) (whole : leng
   later : 0 < y → w ≤ i
   later l = later-row w i (omega (arith, spot-row S))
 
+  pub own-pixel : pixel_at image w h x y ≡ color_at image (some i)
+  own-pixel = pixel-at image w h x y whole S.column S.row ∙ ap (λ j. color_at image (some j)) (sym S.index)
+
+  -- so it is there, and is the colour that stage 1 takes
+  pub never-off : (o : Maybe declared.Color) → o ≡ None → option_of o ≡ pixel_at image w h x y → ⊥
+  unfolding color_at
+  never-off o e f = let z : ◌≡◌ {A = ℕ} 0 1 = cc (own-pixel, ap option_of e) in omega arith
+
+  pub own-color : (o : Maybe declared.Color) (c : declared.Color) → o ≡ Some c → option_of o ≡ pixel_at image w h x y → color_of c ≡ pixel image i
+  unfolding color_at
+  own-color o c e f = cc (own-pixel, ap option_of e)
+
   pub no-left : x ≡ 0 → none ≡ color_at image (left w i)
   unfolding color_at
   no-left e = ap (color_at image) (sym (border-left S e))
@@ -156,7 +171,9 @@ module _ {w h i x y : ℕ} (image : List ℕ) (S : Spot w h i x y) (whole : leng
   pub up_left-pixel : 0 < y → color_at image (left w (i - w)) ≡ color_at image (up_left w i)
   up_left-pixel l = ap (color_at image) (sym (up_left-some w i (later l)))
 
--- what names the pixels to the left and above, and their places
+-- what names a pixel, those to the left of it and above it, and their places
+pub ruleset own_pixels = (never-off, own-color)
+
 pub ruleset left_pixels = (no-left, left-pixel)
 
 pub ruleset up_pixels = (no-up, up-pixel, up_none)

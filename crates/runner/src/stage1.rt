@@ -93,13 +93,16 @@ struct Target {
 }
 
 impl<'a> Seen<'a> {
-    // What is seen from a pixel.
+    // What is seen from a pixel. It is on the image, so its own colour is never none.
+    #[tactic(auto, using(crate::proofs::Spots::own_pixels))]
     fn of(here: Here<'a>) -> Seen<'a>
         ensures { result.here ≡ here.entry }
     {
+        let Here { input, at } = here;
+        let own = color::pixel_at(input.image, input.w, input.h, at.x, at.y).unwrap();
         Seen {
             here,
-            own: here.input.color_at(here.at.i),
+            own,
             left: here.left(),
             up: here.up(),
             up_left: here.up_left(),
