@@ -1,6 +1,6 @@
 // The sheet that is painted: clusters whose size, buffers and counts have passed the checks that come before the
 // entries.
-ghost use Rattle.std.specs.Prelude.{◌≡◌, ◌||◌, ℕ, ◌*◌, ◌≤◌, ◌<◌, eqb, ltb, length, get_or, IfOk};
+ghost use Rattle.std.specs.Prelude.{◌≡◌, ℕ, ◌*◌, ◌≤◌, ◌<◌, length, get_or, IfOk};
 ghost use Rattle.rules.specs.Refusals.{limit, paint_answer};
 ghost use Rattle.rules.specs.Layout.{slot_width};
 ghost use Rattle.rules.specs.Paint.{slot_number};
@@ -45,13 +45,6 @@ impl<'a> Sheet<'a> {
             size,
             n: clusters.counts.n,
         })
-    }
-
-    // Whether v, a pixel number plus one, names no pixel.
-    pub(crate) fn is_off(self, v: u32) -> bool
-        ensures { result ≡ (eqb v 0 || ltb self.entry.size v) }
-    {
-        (v == 0) | (self.size < v)
     }
 
     // The numbers of slot k.

@@ -41,7 +41,7 @@ impl Sheet<'_> {
     {
         let mut at = list.first;
         for _step in 0..list.count {
-            if self.is_off(at) {
+            if (at == 0) | (self.size < at) {
                 return false;
             }
             at = self.links[(at - 1) as usize];

@@ -18,7 +18,7 @@ impl Sheet<'_> {
     fn walk_ends(self, v: u32, q: u32, r: u32) -> bool
         ensures { result ≡ false → (0 < v) × (v ≤ self.entry.size) }
     {
-        self.is_off(v) | (v == q) | (v == r)
+        (v == 0) | (self.size < v) | (v == q) | (v == r)
     }
 
     // Each of several places goes one link on.
@@ -127,7 +127,7 @@ impl Numbered<'_> {
         let sheet = self.sheet;
         let k = sheet.outputs.get(sheet.outputs.len().checked_sub(back)?)?;
         let v = sheet.list(*k).first;
-        if sheet.is_off(v) {
+        if (v == 0) | (sheet.size < v) {
             return None;
         }
         Some(v)
