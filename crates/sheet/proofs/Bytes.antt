@@ -1,5 +1,5 @@
 -- The numbers of a stored sheet and their bytes: where they lie, and whether one of them takes more than two bytes. Assumes nothing.
-use mathlib.Core.Path.{◌≡◌, refl, sym, ap, ◌∙◌}
+use mathlib.Core.Path.{◌≡◌, refl, sym, ap, ap₂, ◌∙◌}
 use mathlib.Core.Bool.{Bool, true, false, not, ◌&&◌, ◌||◌, and-true, or-false, or_assoc}
 use mathlib.Core.List.{List, [], ◌∷◌, ◌++◌, append-nil, append_assoc, flatten}
 use Prim.Native.Nat.{ℕ, zero, suc, ◌+◌, ◌*◌, ◌≤◌, ◌<◌}
@@ -13,10 +13,9 @@ use lib.ListN.{length, get_or, set, take, length-append, length-take, drop_of_le
 use lib.Seq.{sets, sets-eq, append_snoc, take-suc}
 use Rattle.std.specs.List.{fold}
 use Rattle.sheet.specs.Code.Pairs.{pairs}
+use Rattle.sheet.specs.Code.Stored.{parts, slot_pairs}
 use Rattle.rules.specs.Base.{up_to, none_above}
-use Rattle.rules.specs.Layout.{first_pixel_place, pixel_count_place}
-use Rattle.rules.specs.Paint.{slot_number}
-use Rattle.rules.specs.Stored.{is_large, two_bytes, stored_bytes, pixel_numbers, slot_numbers, stored_numbers}
+use Rattle.rules.specs.Stored.{is_large, two_bytes, stored_bytes}
 use Rattle.std.proofs.lemmas.List.{take_all, take_more}
 use Rattle.refusal.proofs.Laws.{refused_number}
 use Rattle.sheet.proofs.Accepted.{store-number}
@@ -140,58 +139,62 @@ two-lists xs ys (suc n) h l =
 -- ---- a whole sheet
 
 -- each of its parts is small
-pub record Small (w h : ℕ) (labels links table to : List ℕ) (n m : ℕ) : Type 0 where
-  pub sizes : is_large (w ∷ h ∷ n ∷ m ∷ []) ≡ false
-  pub pixels : is_large (pixel_numbers labels links (w * h)) ≡ false
-  pub slots : is_large (slot_numbers table n) ≡ false
-  pub outputs : is_large (take m to) ≡ false
+pub record Small (a b c d : List ℕ) : Type 0 where
+  pub sizes : is_large a ≡ false
+  pub pixels : is_large b ≡ false
+  pub slots : is_large c ≡ false
+  pub outputs : is_large d ≡ false
 
-module _ (w h : ℕ) (labels links table outputs : List ℕ) (n m : ℕ) where
-  abbrev sizes : List ℕ
-  sizes = w ∷ h ∷ n ∷ m ∷ []
-
-  abbrev pixels : List ℕ
-  pixels = pixel_numbers labels links (w * h)
-
-  abbrev slots : List ℕ
-  slots = slot_numbers table n
-
-  abbrev numbers : List ℕ
-  numbers = stored_numbers w h labels links table outputs n m
-
-  pub stored-large : is_large numbers ≡ is_large sizes || is_large pixels || is_large slots || is_large (take m outputs)
-  unfolding stored_numbers
-  stored-large = rw (large-append _ (take m outputs), large-append _ slots, large-append sizes pixels)
+module _ (sizes pixels slots outputs : List ℕ) where
+  pub stored-large : is_large (sizes ++ pixels ++ slots ++ outputs) ≡ is_large sizes || is_large pixels || is_large slots || is_large outputs
+  stored-large = rw (large-append _ outputs, large-append _ slots, large-append sizes pixels)
 
   -- none of the numbers is large
-  pub stored-small : is_large numbers ≡ false → Small w h labels links table outputs n m
-  unfolding stored_numbers
+  pub stored-small : is_large (sizes ++ pixels ++ slots ++ outputs) ≡ false → Small sizes pixels slots outputs
   stored-small e =
-      let o = neither _ (is_large (take m outputs)) (sym (large-append (sizes ++ pixels ++ slots) (take m outputs)) ∙ e) in
+      let o = neither _ (is_large outputs) (sym (large-append (sizes ++ pixels ++ slots) outputs) ∙ e) in
       let s = neither _ (is_large slots) (sym (large-append (sizes ++ pixels) slots) ∙ o.0) in
       let p = neither (is_large sizes) (is_large pixels) (sym (large-append sizes pixels) ∙ s.0) in
       record { sizes = p.0; pixels = p.1; slots = s.1; outputs = o.1 }
 
-  -- where the slots, and the outputs, begin
-  to_slots : length (sizes ++ pixels) ≡ 4 + 2 * (w * h)
-  unfolding pixel_numbers
-  to_slots = omega (arith, pairs-length (λ p. get_or labels p 0) (λ p. get_or links p 0) (w * h))
-
-  to-outputs : length (sizes ++ pixels ++ slots) ≡ 4 + 2 * (w * h) + 2 * n
-  unfolding slot_numbers
-  to-outputs = omega (arith, length-append (sizes ++ pixels) slots, to_slots, pairs-length (λ k. slot_number table k first_pixel_place) (λ k. slot_number table k pixel_count_place) n)
-
-  pub stored-length : m ≤ length outputs → 2 * length numbers ≡ 8 + 4 * (w * h) + 4 * n + 2 * m
-  unfolding stored_numbers
-  stored-length l = omega (arith, length-append (sizes ++ pixels ++ slots) (take m outputs), to-outputs, length-take m outputs)
-
   -- the four parts, each by itself
-  pub stored-parts : stored_bytes sizes ++ (stored_bytes pixels ++ (stored_bytes slots ++ stored_bytes (take m outputs))) ≡ stored_bytes numbers
-  unfolding stored_numbers
-  stored-parts = rw (bytes-append (sizes ++ pixels ++ slots) (take m outputs), bytes-append (sizes ++ pixels) slots, bytes-append sizes pixels, append_assoc, append_assoc)
+  pub stored-parts : stored_bytes sizes ++ (stored_bytes pixels ++ (stored_bytes slots ++ stored_bytes outputs)) ≡ stored_bytes (sizes ++ pixels ++ slots ++ outputs)
+  stored-parts = rw (bytes-append (sizes ++ pixels ++ slots) outputs, bytes-append (sizes ++ pixels) slots, bytes-append sizes pixels, append_assoc, append_assoc)
+
+-- whether one of the parts is large
+pub parts-large : (sizes labels links outputs : List ℕ) (slots : List (List ℕ)) → length links ≡ length labels
+    → is_large sizes || is_large labels || is_large links || is_large (slot_pairs slots) || is_large outputs ≡ is_large (parts sizes labels links slots outputs)
+parts-large sizes labels links outputs slots e =
+    ap (λ b. b || is_large (slot_pairs slots) || is_large outputs) (or_assoc (is_large sizes) (is_large labels) (is_large links) ∙ ap (λ b. is_large sizes || b) both) ∙ sym (stored-large sizes _ (slot_pairs slots) outputs)
+  where
+    n : ℕ
+    n = length labels
+
+    both : is_large labels || is_large links ≡ is_large (pairs (λ i. get_or labels i 0) (λ i. get_or links i 0) n)
+    both = ap₂ (λ a b. is_large a || is_large b) (sym (take_all n labels (omega arith))) (sym (take_all n links (omega (arith, e)))) ∙ two-lists labels links n (omega arith) (omega (arith, e))
+
+-- how many numbers the parts have
+pub stored-length : (sizes labels links outputs : List ℕ) (slots : List (List ℕ)) → length (parts sizes labels links slots outputs) ≡ length sizes + 2 * length labels + 2 * length slots + length outputs
+stored-length sizes labels links outputs slots =
+    let a = pairs (λ p. get_or labels p 0) (λ p. get_or links p 0) (length labels) in
+    let b = pairs (λ k. get_or (get_or slots k []) 0 0) (λ k. get_or (get_or slots k []) 1 0) (length slots) in
+    omega (
+      arith,
+      length-append (sizes ++ a ++ b) outputs,
+      length-append (sizes ++ a) b,
+      length-append sizes a,
+      pairs-length (λ p. get_or labels p 0) (λ p. get_or links p 0) (length labels),
+      pairs-length (λ k. get_or (get_or slots k []) 0 0) (λ k. get_or (get_or slots k []) 1 0) (length slots),
+    )
+
+-- pairs of the same numbers
+pub pairs-same : (f g h k : ℕ → ℕ) (n : ℕ) → ((i : ℕ) → i < n → (f i ≡ h i) × (g i ≡ k i)) → pairs f g n ≡ pairs h k n
+unfolding flatten up_to
+pairs-same f g h k zero e = refl
+pairs-same f g h k (suc n) e = let l = e n (omega arith) in rw (pairs-more f g n, pairs-more h k n, l.0, l.1, pairs-same f g h k n (λ i m. e i (omega (arith, m)))) refl
 
 -- what the functions cite
-pub ruleset large_laws = (stored-large, two-lists, or_assoc)
+pub ruleset large_laws = (parts-large)
 
 pub ruleset put_laws = (small_at, take_put, written-whole, pairs-put, pairs-length, take_all)
 

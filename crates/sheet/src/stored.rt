@@ -2,13 +2,12 @@
 ghost use Rattle.std.specs.Prelude.{◌≡◌, false, ℕ, ◌+◌, ◌*◌, ◌≤◌, ◌<◌, length, IfOk};
 ghost use Rattle.std.proofs.lemmas.List.Edits.{sets};
 ghost use Rattle.rules.specs.Refusals.{store_answer};
-ghost use Rattle.rules.specs.Stored.{stored_bytes, is_large, two_bytes, slot_numbers};
-ghost use Rattle.rules.specs.Layout.{slot_width};
+ghost use Rattle.rules.specs.Stored.{stored_bytes, is_large, two_bytes};
 ghost use Rattle.refusal.specs.Refusal.{answer_of};
-ghost use Rattle.sheet.specs.Code.Stored.{CanStore, numbers_of, early_answer};
+ghost use Rattle.sheet.specs.Code.Stored.{numbers_of, slot_pairs, early_answer};
 ghost use Rattle.sheet.specs.Code.Pairs.{pairs};
 
-use image::{Clusters, Counts, layout};
+use image::{Clusters, layout};
 use refusal::Refusal;
 
 // The largest number of two bytes.
@@ -24,13 +23,11 @@ fn has_large(numbers: &[u32]) -> bool
         .fold(false, |large, number| large | (LARGEST < *number))
 }
 
-// Whether a first pixel or a count of the first n slots takes more than two bytes.
-fn has_large_slot(table: &[u32], n: usize) -> bool
-    requires { slot_width * n ≤ length table.now }
-    ensures { result ≡ is_large (slot_numbers table.now n) }
+// Whether a first pixel or a count of a slot takes more than two bytes.
+fn has_large_slot(slots: &[[u32; layout::SLOT_WIDTH]]) -> bool
+    ensures { result ≡ is_large (slot_pairs slots.now) }
 {
-    let (slots, _) = table.as_chunks::<{ layout::SLOT_WIDTH }>();
-    slots[..n].iter().any(|slot| {
+    slots.iter().any(|slot| {
         (LARGEST < slot[layout::FIRST_PIXEL]) | (LARGEST < slot[layout::PIXEL_COUNT])
     })
 }
@@ -72,31 +69,44 @@ fn put_pairs<F: Fn(usize) -> (u32, u32)>(destination: &mut [u8], count: usize, p
     }
 }
 
-// The sheet that is stored: clusters with labels, where checks 2, 3 and 5 pass, and how many pixels they have.
+// The sheet that is stored, where checks 2, 3 and 5 pass: of each part what is stored, and no more.
 #[derive(Clone, Copy)]
 pub(crate) struct Stored<'a> {
-    clusters: Clusters<'a>,
+    sizes: [u32; 4],
     labels: &'a [u32],
-    pixels: usize,
-    ghost size: { pixels ≡ clusters.size.w * clusters.size.h },
-    ghost can_store: { CanStore clusters (length labels.now) },
+    links: &'a [u32],
+    slots: &'a [[u32; layout::SLOT_WIDTH]],
+    outputs: &'a [u32],
+    ghost linked: { length links.now ≡ length labels.now },
 }
 
 impl<'a> Stored<'a> {
+    ghost use Rattle.sheet.specs.Code.Numbers.{numbers};
+
     // The sheet, where checks 2, 3 and 5 pass.
     #[tactic(auto, using(crate::proofs::Accepted::fits))]
     fn fitting(clusters: Clusters<'a>, labels: &'a [u32]) -> Result<Stored<'a>, Refusal>
         ensures answer { answer_of result ≡ early_answer clusters.entry (length labels.now) }
-        ensures sheet { IfOk result (λ s. (s.clusters ≡ clusters.entry) × (s.labels.now ≡ labels.now)) }
+        ensures sheet { IfOk result (λ s. numbers s ≡ numbers_of clusters.entry labels.now) }
     {
         let pixels = clusters.pixels()? as usize;
         if labels.len() < pixels {
             return Err(Refusal::BufferLength);
         }
+        let Clusters {
+            size,
+            counts,
+            links,
+            table,
+            outputs,
+        } = clusters;
+        let (slots, _) = table.as_chunks::<{ layout::SLOT_WIDTH }>();
         Ok(Stored {
-            clusters,
-            labels,
-            pixels,
+            sizes: [size.w, size.h, counts.n, counts.m],
+            labels: &labels[..pixels],
+            links: &links[..pixels],
+            slots: &slots[..counts.n as usize],
+            outputs: &outputs[..counts.m as usize],
         })
     }
 
@@ -112,9 +122,8 @@ impl<'a> Stored<'a> {
             ≡ store_answer s.size.w s.size.h (length labels.now) (length s.links.now) (length s.table.now)
             (length s.outputs.now) (length destination.now) s.counts.n s.counts.m (is_large numbers)
             (2 * length numbers) }
-        ensures sheet { IfOk result (λ s. (s.clusters ≡ clusters.entry) × (s.labels.now ≡ labels.now)
-            × (is_large (numbers_of s.clusters s.labels.now) ≡ false)
-            × (length destination.now ≡ 2 * length (numbers_of s.clusters s.labels.now))) }
+        ensures sheet { IfOk result (λ s. (numbers s ≡ numbers_of clusters.entry labels.now)
+            × (is_large (numbers s) ≡ false) × (length destination.now ≡ 2 * length (numbers s))) }
     {
         let sheet = Stored::fitting(clusters, labels)?;
         if sheet.is_too_large() {
@@ -129,60 +138,45 @@ impl<'a> Stored<'a> {
     // How many bytes are stored.
     #[tactic(auto, using(crate::proofs::Bytes::check_laws))]
     fn length(self) -> usize
-        ensures { let s = self.entry in result ≡ 2 * length (numbers_of s.clusters s.labels.now) }
+        ensures { result ≡ 2 * length (numbers self.entry) }
     {
-        let Counts { n, m } = self.clusters.counts;
-        8 + 4 * self.pixels + 4 * n as usize + 2 * m as usize
+        8 + 4 * self.labels.len() + 4 * self.slots.len() + 2 * self.outputs.len()
     }
 
     // Whether a number to be stored takes more than two bytes.
-    #[tactic(auto, unfolding(rules::specs::Stored::pixel_numbers), using(crate::proofs::Bytes::large_laws))]
+    #[tactic(auto, using(crate::proofs::Bytes::large_laws))]
     fn is_too_large(self) -> bool
-        ensures { let s = self.entry in result ≡ is_large (numbers_of s.clusters s.labels.now) }
+        ensures { result ≡ is_large (numbers self.entry) }
     {
-        let Clusters {
-            size,
-            counts,
-            links,
-            table,
-            outputs,
-        } = self.clusters;
-        has_large(&[size.w, size.h, counts.n, counts.m])
-            | has_large(&self.labels[..self.pixels])
-            | has_large(&links[..self.pixels])
-            | has_large_slot(table, counts.n as usize)
-            | has_large(&outputs[..counts.m as usize])
+        has_large(&self.sizes)
+            | has_large(self.labels)
+            | has_large(self.links)
+            | has_large_slot(self.slots)
+            | has_large(self.outputs)
     }
 
     // Writes the sheet.
     #[tactic(auto, using(crate::proofs::Slots::write_laws))]
     pub(crate) fn write(self, destination: &mut [u8])
-        requires small { is_large (numbers_of self.clusters self.labels.now) ≡ false }
-        requires exact { length destination.old ≡ 2 * length (numbers_of self.clusters self.labels.now) }
-        ensures { let s = self.entry in destination.new ≡ stored_bytes (numbers_of s.clusters s.labels.now) }
+        requires small { is_large (numbers self) ≡ false }
+        requires exact { length destination.old ≡ 2 * length (numbers self) }
+        ensures { destination.new ≡ stored_bytes (numbers self.entry) }
     {
         let Stored {
-            clusters,
+            sizes,
             labels,
-            pixels,
-        } = self;
-        let Clusters {
-            size,
-            counts,
             links,
-            table,
+            slots,
             outputs,
-        } = clusters;
-        let n = counts.n as usize;
-        let (slots, _) = table.as_chunks::<{ layout::SLOT_WIDTH }>();
+        } = self;
         let (of_sheet, rest) = destination.split_at_mut(8);
-        let (of_pixels, rest) = rest.split_at_mut(4 * pixels);
-        let (of_slots, of_outputs) = rest.split_at_mut(4 * n);
-        put_all(of_sheet, &[size.w, size.h, counts.n, counts.m]);
-        put_pairs(of_pixels, pixels, |p| (labels[p], links[p]));
-        put_pairs(of_slots, n, |k| {
+        let (of_pixels, rest) = rest.split_at_mut(4 * labels.len());
+        let (of_slots, of_outputs) = rest.split_at_mut(4 * slots.len());
+        put_all(of_sheet, &sizes);
+        put_pairs(of_pixels, labels.len(), |p| (labels[p], links[p]));
+        put_pairs(of_slots, slots.len(), |k| {
             (slots[k][layout::FIRST_PIXEL], slots[k][layout::PIXEL_COUNT])
         });
-        put_all(of_outputs, &outputs[..counts.m as usize]);
+        put_all(of_outputs, outputs);
     }
 }

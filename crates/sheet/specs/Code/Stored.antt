@@ -1,14 +1,25 @@
 -- The sheet that is stored: its numbers, what its first checks answer, and what they show.
-use Rattle.std.specs.Prelude.{Bool, List, [], ◌∷◌, ◌++◌, ◌||◌, ℕ, ◌+◌, ◌*◌, ◌≤◌, ltb, length}
+use Rattle.std.specs.Prelude.{Bool, List, [], ◌∷◌, ◌++◌, ◌||◌, ℕ, ◌+◌, ◌*◌, ◌≤◌, ltb, length, get_or}
 use Rattle.rules.specs.Refusals.{limit, first_failed, refusal, size_checks, short_sheet, bad_counts}
 use Rattle.rules.specs.Layout.{slot_width}
 use Rattle.rules.specs.Stored.{stored_numbers}
+use Rattle.sheet.specs.Code.Pairs.{pairs}
 use Rattle.image.specs.declared.Clusters.{Clusters}
 
 -- the numbers of clusters with these labels
 abbrev pub numbers_of : Clusters → List ℕ → List ℕ
 numbers_of s labels =
     stored_numbers s.size.w s.size.h labels s.links.now s.table.now s.outputs.now s.counts.n s.counts.m
+
+-- first pixel and count of each of these slots
+abbrev pub slot_pairs : List (List ℕ) → List ℕ
+slot_pairs slots = pairs (λ k. get_or (get_or slots k []) 0 0) (λ k. get_or (get_or slots k []) 1 0) (length slots)
+
+-- the numbers of a sheet in its parts: each slice has just what is stored
+abbrev pub parts : List ℕ → List ℕ → List ℕ → List (List ℕ) → List ℕ → List ℕ
+parts sizes labels links slots outputs =
+    sizes ++ pairs (λ p. get_or labels p 0) (λ p. get_or links p 0) (length labels)
+    ++ slot_pairs slots ++ outputs
 
 -- labels is a length
 module _ (s : Clusters) (labels : ℕ) where
