@@ -141,9 +141,9 @@ impl<'a> Reach<'a> {
         (0..4).all(|j: u32| !self.input.is_key(i + j))
     }
 
-    // How many bytes of the four pixels from i on, behind the first column and the first row, are further than their limit
-    // from those of the four above, and from those of the four up and left. They are counted, without a branch, so that
-    // the compiler takes all at once.
+    // How many bytes of the four pixels from i on, behind the first column and the first row, are further than their
+    // limit from those of the four above, and from those of the four to the left of these. They are counted, without a
+    // branch, so that the compiler takes all at once.
     fn four_far(self, i: u32) -> u8
         requires { (self.input.now.w + 1 ≤ i) × (i + 4 ≤ self.input.now.w * self.input.now.h) }
         ensures { let s = self.entry in let p = s.input.now in

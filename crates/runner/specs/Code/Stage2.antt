@@ -115,8 +115,8 @@ visit_at o w h image i k =
 -- the buffers hold what the rules have before turn i, and t the largest pixel count
 pub record Between (o : RunnerConfig) (w h : ℕ) (image t₀ L K B E H Q M S : List ℕ) (n : ℕ) (t : Turns) : Type 0 where
   pub table_fits : slot_width * (w * h + 1) ≤ length t₀
-  pub carried : Carried (w * h) (queue_at o w h image t.turns).now (queue_at o w h image t.turns).keys t₀ L K B E H Q M S
-      n t.m t.turns
+  pub carried : Carried (w * h) (queue_at o w h image t.turns).now (queue_at o w h image t.turns).keys
+      t₀ L K B E H Q M S n t.m t.turns
   pub top : t.largest ≡ order.largest (queue_at o w h image t.turns).now.clusters
 
 -- slot k, of a pixels, is the one to be visited in turn i
