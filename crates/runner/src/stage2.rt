@@ -18,8 +18,8 @@ use crate::RunnerConfig;
 
 // What both stages work on: the clusters, what stage 2 has beside them, for room = w × h + 1 slots, and what is given.
 // Stage 2 has the ends of the hole lists (room), the queue of pending slots (3 × room), the marks of the neighbours
-// (room), and the outputs before any is dropped (2 × room). Clusters and queue are lent, and each loan has a lifetime
-// of its own: of a struct that is moved into another it is not known what its slices hold in the end.
+// (room), and the outputs before any is dropped (2 × room). Clusters and queue are lent, with a lifetime for the slices
+// of each: of a struct that is moved into another it is not known what its slices hold in the end.
 #[derive(Drop)]
 pub(crate) struct Run<'a, 'b, 'c, 'd> {
     pub(crate) lists: &'b mut Builder<'a>,
