@@ -150,7 +150,7 @@ impl<'a> Visit<'a> {
 }
 
 // The neighbours of cluster k, each marked with the number of the visit.
-#[tactic(auto, unfolding(rules::specs::Stage2::labels_around), using(crate::proofs::Pixels::pixels_within, crate::proofs::Pixels::pixels_few, crate::proofs::Pixels::readable_wider))]
+#[tactic(auto, unfolding(rules::specs::Stage2::labels_around), using(crate::proofs::Pixels::readable_wider))]
 pub(crate) fn neighbours(
     b: &Builder,
     marks: &mut [u32],
