@@ -35,7 +35,7 @@
 #include <stddef.h>
 #include <stdint.h>
 
-/* ---- Sizes (rules, section 3) ---- */
+/* ---- Sizes (rules, sections 3 and 11) ---- */
 
 /* The largest number of pixels, w * h, that a call accepts. */
 #define COLOR_CLUSTERS_LIMIT 65000
@@ -127,8 +127,8 @@ typedef struct {
     int32_t is_same_color_a;
     /* Default 1. Below 0 no two colours are like. */
     int32_t is_same_color_b;
-    /* Default COLOR_CLUSTERS_HIERARCHICAL_MAX. A cluster of more pixels is not merged into another. Only with the
-     * default can one stay a patch inside another; 0 merges none. */
+    /* Default COLOR_CLUSTERS_HIERARCHICAL_MAX. Once all pixels are taken, a cluster of more pixels is not merged into
+     * another. Only with the default can one stay a patch inside another; 0 merges none from then on. */
     uint32_t hierarchical;
     /* Default 16. What stays a patch inside another has more pixels than this and, unless this is 0, not all of them on
      * its edge. */

@@ -10,7 +10,7 @@ const HIERARCHICAL_MAX: u32 = u32::MAX;
 /// What the library is told besides the chart. A range that only the library checks is not checked here.
 #[derive(Args, Clone, Debug)]
 #[command(
-    next_help_heading = "Settings of the clustering, named as in the Rust original",
+    next_help_heading = "Settings of the clustering, named as in the Rust original (docs/RULES.md, rule 2.1)",
     rename_all = "snake_case",
     allow_negative_numbers = true
 )]
@@ -33,7 +33,7 @@ pub struct Settings {
     )]
     pub is_same_color_b: i32,
 
-    /// A cluster with more pixels than this is not merged into another; the default lets patches lie inside patches
+    /// Once all pixels are read, a cluster with more than this is not merged into another; the default lets patches lie inside patches
     #[arg(long, value_name = "PIXELS", default_value_t = HIERARCHICAL_MAX)]
     pub hierarchical: u32,
 

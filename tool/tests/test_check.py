@@ -16,6 +16,7 @@ class Check(Case):
         self.sheet("make", "chart.png", "s.png", "--stored", "s.stored", "--quiet", *options)
         return self.files()["s.stored"]
 
+    @with_original
     def test_the_stored_sheet_is_the_original_s_numbers(self):
         for settings in [{}, {"good_min_area": 0, "deepen_diff": 0}, {"key": "ff00ff", "action": "discard"}]:
             answer = judged(self.image, settings)

@@ -12,7 +12,7 @@ KINDS = [b"tRNS", b"PLTE", b"IDAT", b"fcTL", b"acTL", b"fdAT", b"IHDR", b"gAMA",
 class Damaged(Case):
     def of_kind(self, data, kind):
         """Runs a damaged chart; it may only be refused in one line, or give a sheet."""
-        result = subprocess.run([SHEET, "make", "-", "-"], input=data, capture_output=True, timeout=60, cwd=self.folder)
+        result = subprocess.run([SHEET, "make", "-", "-"], input=data, capture_output=True, timeout=PATIENCE, cwd=self.folder)
         error = result.stderr.decode()
         if result.returncode == 0:
             decode_pam(result.stdout)

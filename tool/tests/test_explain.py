@@ -89,6 +89,7 @@ def kinds(said):
     return {kind for kind, holds in special.items() if holds}
 
 
+@with_original
 class Explained(Case):
     def compare(self, chart, settings, pixels):
         """Every number that `explain` gives for these pixels is the original's. Answers the kinds that were seen."""
@@ -162,12 +163,16 @@ class Explained(Case):
 
 
 class Words(Case):
+    def said(self, chart, x, y, settings={}):
+        """What `explain` prints of a pixel."""
+        self.chart("chart.png", chart)
+        return self.sheet("explain", "chart.png", x, y, *options_of(settings)).stdout.decode()
+
     def explained(self, chart, x, y, settings={}):
         """What `explain` prints of a pixel, and the original's answer."""
-        self.chart("chart.png", chart)
-        said = self.sheet("explain", "chart.png", x, y, *options_of(settings)).stdout.decode()
-        return said, Original(chart, settings)
+        return self.said(chart, x, y, settings), Original(chart, settings)
 
+    @with_original
     def test_the_division_is_the_original_s(self):
         for x, y in [(26, 24), (0, 0), (24, 18), (12, 18)]:
             said, original = self.explained(sector_chart(48, 36, 1), x, y)
@@ -182,15 +187,16 @@ class Words(Case):
 
     def test_a_discarded_pixel(self):
         settings = {"key": "ff00ff", "action": "discard"}
-        said, _ = self.explained((3, 1, bytes(RED) + bytes(KEY) + bytes(RED)), 1, 0, settings)
+        said = self.said((3, 1, bytes(RED) + bytes(KEY) + bytes(RED)), 1, 0, settings)
         self.assertIn("on the sheet  #00000000  red 0, green 0, blue 0, alpha 0 (transparent)", said)
         self.assertIn("0, which every discarded pixel has; no cluster holds it", said)
-        self.assertIn("--discard leaves such pixels out.\n  It belongs to no patch.", said)
+        self.assertIn("--discard leaves such pixels out (rule 5.4).\n  It belongs to no patch.", said)
         self.assertIn("No cluster holds the pixel.\n  So nothing is painted here, and the sheet is empty", said)
         self.assertNotIn("from inner to outer", said)
         words = ["explain", "chart.png", 1, 0, *options_of(settings), "--picture", "p.png"]
         self.refused(*words, says=["no cluster holds this pixel", "Leave --picture out"])
 
+    @with_original
     def test_a_pixel_that_is_held_and_not_painted(self):
         # With a key that is kept, a cluster that touches nothing is passed over while larger ones are listed.
         chart = (5, 1, bytes(KEY) * 4 + bytes(GREEN))
@@ -200,6 +206,7 @@ class Words(Case):
         self.assertIn("So nothing is painted here, and the sheet is empty", said)
         self.assertIn("on the sheet  #00000000", said)
 
+    @with_original
     def test_a_pixel_whose_smallest_cluster_is_painted_over(self):
         # With a key that is discarded, a cluster is put out as soon as it touches nothing; one that is put inside it
         # later is painted before it.
@@ -212,6 +219,7 @@ class Words(Case):
         self.assertRegex(said, r"pixels? left to cluster 4\.")
         self.assertIn("The smallest cluster that holds this pixel is cluster 0.", said)
 
+    @with_original
     def test_picture(self):
         chart = rings(16, [WHITE, RED, GREEN], 4)
         self.chart("chart.png", chart)

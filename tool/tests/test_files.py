@@ -2,11 +2,15 @@
 
 import os
 import resource
+import select
+import shutil
 import signal
 import stat
-import time
 
 from support import *
+
+# Of a PAM.
+FIRST_BYTE = b"P"
 
 
 class Files(Case):
@@ -56,12 +60,15 @@ class Files(Case):
     def as_anybody(self, *words, says):
         """Wants a failure for a user with no rights here; the superuser becomes one."""
         self.folder.chmod(0o755)
+        # The program may lie where no other user comes.
+        program = self.folder / "program"
+        shutil.copy(SHEET, program)
         user = {"user": 65534, "group": 65534, "extra_groups": []} if os.geteuid() == 0 else {}
         try:
-            subprocess.run([SHEET, "--version"], capture_output=True, check=True, **user)
+            subprocess.run([program, "--version"], capture_output=True, check=True, **user)
         except (PermissionError, subprocess.CalledProcessError):
-            self.skipTest("another user can't run the program here")
-        self.refused(*words, says=says, **user)
+            self.skipTest("where no other user comes to the temporary folder")
+        self.refused(*words, says=says, program=program, **user)
 
     def test_a_folder_that_may_not_be_written(self):
         (self.folder / "closed").mkdir(mode=0o555)
@@ -84,16 +91,18 @@ class Files(Case):
         self.assertIn("too large", error.lower())
 
     def blocked(self, **options):
-        """A run that has written its stored sheet beside its place, and waits to write the sheet to a full pipe."""
+        """A run that has written its stored sheet beside its place, and waits to write the sheet to a full pipe, which
+        holds a small part of it. The sheet comes second, so its first byte, taken here, tells that the run is there."""
         self.chart("large.png", sector_chart(260, 250, 1))
         words = [SHEET, "make", "large.png", "-", "--stored", "s.stored"]
-        process = subprocess.Popen(words, cwd=self.folder, stdout=subprocess.PIPE, stderr=subprocess.PIPE, **options)
+        pipes = {"stdout": subprocess.PIPE, "stderr": subprocess.PIPE, "bufsize": 0, "pipesize": 4096}
+        process = subprocess.Popen(words, cwd=self.folder, **pipes, **options)
         self.addCleanup(process.stdout.close)
         self.addCleanup(process.stderr.close)
-        deadline = time.monotonic() + 30
-        while not any(name.endswith(".part") for name in os.listdir(self.folder)):
-            self.assertLess(time.monotonic(), deadline)
-            time.sleep(0.01)
+        if not select.select([process.stdout], [], [], PATIENCE)[0]:
+            process.kill()
+        self.assertEqual(process.stdout.read(1), FIRST_BYTE)
+        self.assertTrue(any(name.endswith(".part") for name in os.listdir(self.folder)))
         self.assertFalse((self.folder / "s.stored").exists())
         return process
 
@@ -101,7 +110,7 @@ class Files(Case):
         for number in (signal.SIGHUP, signal.SIGINT, signal.SIGTERM):
             process = self.blocked()
             process.send_signal(number)
-            self.assertEqual(process.wait(30), -number)
+            self.assertEqual(process.wait(PATIENCE), -number)
             self.assertEqual(sorted(self.files()), ["chart.png", "large.png"])
 
     def test_a_run_that_was_told_to_live_through_a_signal_does(self):
@@ -109,7 +118,7 @@ class Files(Case):
         for number in (signal.SIGHUP, signal.SIGINT):
             process = self.blocked(preexec_fn=lambda: signal.signal(number, signal.SIG_IGN))
             process.send_signal(number)
-            decode_pam(process.communicate(timeout=30)[0])
+            decode_pam(FIRST_BYTE + process.communicate(timeout=PATIENCE)[0])
             self.assertEqual(process.returncode, 0)
             self.assertEqual(sorted(self.files()), ["chart.png", "large.png", "s.stored"])
             (self.folder / "s.stored").unlink()
@@ -117,13 +126,13 @@ class Files(Case):
     def test_even_a_killed_run_leaves_nothing_under_the_name(self):
         process = self.blocked()
         process.kill()
-        process.wait(30)
+        process.wait(PATIENCE)
         self.assertFalse((self.folder / "s.stored").exists())
 
     def test_a_reader_that_stops_early_makes_the_sheet_fail(self):
         process = self.blocked()
         process.stdout.close()
-        self.assertEqual(process.wait(30), 1)
+        self.assertEqual(process.wait(PATIENCE), 1)
         self.assertIn(b"standard output can't be written", process.stderr.read())
         self.assertEqual(sorted(self.files()), ["chart.png", "large.png"])
 

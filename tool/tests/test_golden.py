@@ -61,8 +61,13 @@ class Golden(Case):
             made = self.files()
             self.same(f"{name}.sheet.png", made["out.png"])
             self.same(f"{name}.stored", made["out.stored"])
+
+    @with_original
+    def test_the_sheets_are_the_original_s(self):
+        for name, chart, options, _ in self.each():
+            made = self.sheet("make", chart, "-", *options).stdout
             right = judged(charts()[name], CASES[name][0])["picture"]
-            self.assertEqual(decode_png(made["out.png"])[2], right)
+            self.assertEqual(decode_pam(made)[2], right)
 
     def test_explanations(self):
         for name, chart, options, (x, y) in self.each():

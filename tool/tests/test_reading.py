@@ -116,13 +116,18 @@ class Reading(Case):
         self.sheet("make", "a.png", "out.pam")
         self.sheet("make", "-", "from_pipe.png", input=png(*chart))
         piped = self.sheet("make", "-", "-", input=pam(*chart))
-        right = judged(chart, {})["picture"]
         files = self.files()
+        made = decode_pam(files["out.pam"])
         for name in ["from_png.png", "from_pam.png", "from_pipe.png"]:
-            self.assertEqual(decode_png(files[name]), (40, 30, right))
-        self.assertEqual(decode_pam(files["out.pam"]), (40, 30, right))
+            self.assertEqual(decode_png(files[name]), made)
         self.assertEqual(piped.stdout, files["out.pam"])
         self.assertEqual(piped.stderr, b"")
+
+    @with_original
+    def test_that_sheet_is_the_original_s(self):
+        chart = sector_chart(40, 30, 5)
+        made = self.sheet("make", "-", "-", input=pam(*chart)).stdout
+        self.assertEqual(decode_pam(made), (40, 30, judged(chart, {})["picture"]))
 
     def test_a_name_that_begins_with_a_dash(self):
         self.chart("-a.png", speckled(3, 3, [RED], 1))

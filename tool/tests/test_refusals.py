@@ -144,10 +144,15 @@ class Usage(Case):
         self.assertTrue(self.sheet("--version").stdout.startswith(b"sheet "))
 
     def test_options_may_be_written_with_hyphens_and_equals(self):
+        self.chart("a.png", sector_chart(30, 20, 1))
+        self.sheet("make", "a.png", "1.png", "--deepen_diff", "-5", "--good_min_area", "3")
+        self.sheet("make", "--deepen-diff=-5", "--good-min-area=3", "a.png", "2.png")
+        self.assertEqual(self.files()["1.png"], self.files()["2.png"])
+
+    @with_original
+    def test_options_are_the_original_s_settings(self):
         chart = sector_chart(30, 20, 1)
         self.chart("a.png", chart)
         self.sheet("make", "a.png", "1.png", "--deepen_diff", "-5", "--good_min_area", "3")
-        self.sheet("make", "--deepen-diff=-5", "--good-min-area=3", "a.png", "2.png")
         right = judged(chart, {"deepen_diff": -5, "good_min_area": 3})["picture"]
         self.assertEqual(decode_png(self.files()["1.png"])[2], right)
-        self.assertEqual(self.files()["1.png"], self.files()["2.png"])

@@ -11,15 +11,23 @@ class Several(Case):
             self.chart(name, image)
 
     def test_each_sheet_is_the_one_it_has_alone(self):
+        alone = {name: decode_pam(self.sheet("make", name, "-").stdout) for name in self.images}
         for jobs in ([], ["--jobs", "1"], ["--jobs", "7"]):
             said = self.sheet("make", *self.images, "--out-dir", "out", "--stored-dir", "stored/deep", *jobs).stdout.decode()
-            for name, image in self.images.items():
-                made = decode_png((self.folder / "out" / name).read_bytes())
-                self.assertEqual(made[2], judged(image, {})["picture"])
+            for name in self.images:
+                self.assertEqual(decode_png((self.folder / "out" / name).read_bytes()), alone[name])
                 stem = name.removesuffix(".png")
                 self.sheet("check", f"stored/deep/{stem}.stored", name)
             names = [line.split(":")[0] for line in said.splitlines()]
             self.assertEqual(names, [f"out/{name}" for name in self.images])
+
+    @with_original
+    def test_each_sheet_is_the_original_s(self):
+        lines = self.json("make", *self.images, "--out-dir", "out", "--json")
+        for (name, image), line in zip(self.images.items(), lines, strict=True):
+            answer = judged(image, {})
+            self.assertEqual(decode_png((self.folder / "out" / name).read_bytes())[2], answer["picture"])
+            self.assertEqual((line["n"], line["m"]), (answer["n"], answer["m"]))
 
     def test_one_bad_chart_does_not_stop_the_others(self):
         self.put("c.png", b"no chart")
@@ -41,12 +49,12 @@ class Several(Case):
             if line["chart"] == "c.png":
                 self.assertEqual(line, {"chart": "c.png", "refusal": None, "error": "it is neither PNG nor PAM. Save the chart as PNG."})
                 continue
-            answer = judged(self.images[line["chart"]], {})
-            self.assertEqual((line["n"], line["m"]), (answer["n"], answer["m"]))
+            [alone] = self.json("clusters", line["chart"], "--json")
+            self.assertEqual((line["n"], line["m"]), (alone["n"], alone["m"]))
             self.assertEqual((line["width"], line["height"]), self.images[line["chart"]][:2])
             self.assertEqual(set(line["milliseconds"]), {"read", "run_and_paint", "write"})
+            # A clock may be too coarse for a small chart.
             self.assertTrue(all(time >= 0 for time in line["milliseconds"].values()))
-            self.assertGreater(line["milliseconds"]["run_and_paint"], 0)
 
     def test_lists_of_several(self):
         self.put("b.png", b"")

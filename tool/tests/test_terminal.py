@@ -21,7 +21,7 @@ class Terminal(Case):
         os.close(slave)
         shown = b""
         while True:
-            if not select.select([master], [], [], 60)[0]:
+            if not select.select([master], [], [], PATIENCE)[0]:
                 process.kill()
                 self.fail("nothing more appears")
             try:
@@ -32,13 +32,14 @@ class Terminal(Case):
                 break
             shown += part
         os.close(master)
-        self.assertEqual(process.wait(60), status, shown)
+        self.assertEqual(process.wait(PATIENCE), status, shown)
         return shown.decode()
 
     def test_a_progress_line_that_goes_away(self):
         names = [f"{name}.png" for name in "abcdef"]
         shown = self.at_terminal("make", *names, "--out-dir", "out")
-        self.assertRegex(shown, r"\d of 6 charts")
+        # The first chart that is done is drawn whenever that is; those after it only from time to time.
+        self.assertRegex(shown, r"[1-6] of 6 charts")
         # Cleared, and then the sheets in their order.
         self.assertIn("\x1b[2K", shown)
         rest = shown[shown.rindex("\x1b[2K"):]

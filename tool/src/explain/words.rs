@@ -26,9 +26,9 @@ impl fmt::Display for Explanation {
             )?;
             writeln!(out, "{}", lines(self.holders.iter()))?;
             writeln!(out, "What lies inside cluster {}\n", smallest.number)?;
-            write!(out, "{}", self.what_lies_inside())?;
+            writeln!(out, "{}", self.what_lies_inside())?;
         }
-        Ok(())
+        write!(out, "{RULES}")
     }
 }
 
@@ -46,7 +46,7 @@ impl Explanation {
 
     fn why_this_patch(&self) -> String {
         let Some(smallest) = self.holders.first() else {
-            return "  The pixel has the key colour, and --discard leaves such pixels out.\n  \
+            return "  The pixel has the key colour, and --discard leaves such pixels out (rule 5.4).\n  \
                 It belongs to no patch.\n"
                 .to_string();
         };
@@ -100,11 +100,15 @@ impl Explanation {
             many => format!("{} of them are holes.", grouped(many as u64)),
         };
         format!(
-            "{}  {note} A hole touched at most hollow_neighbours clusters when it was put inside.\n",
+            "{}  {note}\n  A hole touched at most hollow_neighbours clusters when it was put inside (rule 7.10).\n",
             lines(self.inside.iter().map(|inner| &inner.cluster))
         )
     }
 }
+
+/// Where the numbers that are cited lead.
+const RULES: &str =
+    "The rules, by their numbers: docs/RULES.md. What makes a patch is said there in sections 5 to 7.\n";
 
 /// So many holes are named one by one.
 const MOST_NAMED: usize = 3;
@@ -118,8 +122,8 @@ fn painted_over(painter: &Cluster, smallest: &Cluster) -> String {
     let (outer, inner) = (painter.number, smallest.number);
     match smallest.put_out {
         true => format!(
-            "  Cluster {inner} was put out after cluster {outer}. What was put out last is painted first, so cluster\n  \
-             {outer} is painted over it.\n"
+            "  Cluster {inner} was put out after cluster {outer}. What was put out last is painted first\n  \
+             (rule 9.1), so cluster {outer} is painted over it.\n"
         ),
         false => format!(
             "  Cluster {inner} was not put out, so it is not painted. Of the clusters around it that were put out,\n  \
@@ -155,7 +159,7 @@ fn division(cluster: &Cluster) -> String {
         .collect();
     format!(
         "  The sheet shows the average of the {} left to cluster {}.\n  \
-         Each channel is added up, divided by their number and rounded down:\n\n{}",
+         Each channel is added up, divided by their number and rounded down (rule 4.6):\n\n{}",
         counted(count, "pixel"),
         cluster.number,
         rows.concat()
