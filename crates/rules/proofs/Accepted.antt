@@ -9,7 +9,10 @@ use native.Mathlib.Omega.{arith}
 use borrow.Author.Tests.{eqb-false, eqb-true, ltb-false, not-false}
 use lib.Dec.{T, ltb, eqb}
 use Rattle.rules.specs.Color.{RunnerConfig}
-use Rattle.rules.specs.Refusals.{Check, refusal, first_failed, size_checks, not_four_each, run_checks, limit, bad_shift, table_length, outputs_length, work_length, short_sheet, bad_counts, run_answer, run_and_paint_answer}
+use Rattle.rules.specs.Base.{none_above}
+use Rattle.rules.specs.Refusals.{Check, refusal, first_failed, size_checks, not_four_each, run_checks, limit, bad_shift, table_length, outputs_length, work_length, short_sheet, bad_counts, run_answer, run_and_paint_answer, store_answer}
+use Rattle.rules.specs.Stored.{stored_numbers, is_large}
+use Rattle.rules.specs.Calls.{store_call}
 use Rattle.rules.specs.Code.Accepted.{GoodSize, Accepted}
 use Rattle.rules.proofs.Facts.{eqb_no}
 
@@ -104,3 +107,12 @@ run-and-paint-accepted o w h image labels links table outputs work picture e =
     go : (r : ℕ) {l : ℕ} → (if eqb r 0 then l else r) ≡ 0 → (r ≡ 0) × (l ≡ 0)
     go zero e = (refl, e)
     go (suc r) e = absurd (omega (arith, rw (eqb_no (suc r) 0 (λ z. omega arith)) at e))
+
+-- a sheet that is stored has no number above 65,535: n and m are asked too
+pub stored-small : (w h : ℕ) (labels links table outputs destination : List ℕ) (n m : ℕ) → (store_call w h labels links table outputs destination n m).answer ≡ 0 → none_above 65535 (stored_numbers w h labels links table outputs n m) ≡ true
+unfolding store_call store_answer is_large
+stored-small w h labels links table outputs destination n m e =
+    let c2 = passed 1 (eqb w 0 || eqb h 0) _ e in
+    let c3 = passed 2 (ltb limit (w * h)) _ c2.1 in
+    let c5 = passed 4 _ _ c3.1 in
+    not-false (none_above 65535 (stored_numbers w h labels links table outputs n m)) (passed 11 _ _ c5.1).0

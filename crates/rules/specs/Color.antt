@@ -21,7 +21,8 @@ unfoldable pub pixel : List ℕ → ℕ → Color
 pixel image i =
     rgba (get_or image (4 * i) 0) (get_or image (4 * i + 1) 0) (get_or image (4 * i + 2) 0) (get_or image (4 * i + 3) 0)
 
--- the pixel at column x, row y of w columns and h rows; off the image it is none (rule 1.3)
+-- the pixel at column x, row y of w columns and h rows; off the image it is none (rule 1.3), and so where the bytes end
+-- too soon, which those of an accepted image never do
 unfoldable pub pixel_at : List ℕ → ℕ → ℕ → ℕ → ℕ → Option Color
 unfolding pixel
 pixel_at image w h x y =

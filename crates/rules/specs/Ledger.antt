@@ -6,8 +6,8 @@ use Rattle.rules.specs.State.{Event, added, plain, deepened}
 abbrev pub Held : Type 0
 Held = ℕ → ℕ → Bool
 
--- a pixel added: that cluster holds it too; a plain merge: t also holds what f held, f nothing; a deepening merge: t
--- also holds what f held, and f keeps it
+-- a pixel that is added is held by its cluster; by a merge t comes to hold what f held, beside its own; after a plain
+-- one f is left with nothing, after a deepening one with what it had (rule 12.2)
 abbrev pub enter : Event → Held → Held
 enter (added p k) h j q = (eqb j k && eqb q p) || h j q
 enter (plain f t) h j q = if eqb j t then h t q || h f q else (if eqb j f then false else h j q)

@@ -30,8 +30,8 @@ unfoldable pub is_key : RunnerConfig → List ℕ → ℕ → Bool
 unfolding keying_on equal_color pixel
 is_key o image i = keying_on o && equal_color (pixel image i) o.key_color
 
--- rule 5.3, the end: next falls by one where l, which left's cluster went with, was the number just below next and next
--- equals the slot count
+-- rule 5.3, the end: next falls by one where l, the cluster of left, which went, was the number just below next and
+-- next equals the slot count
 unfoldable pub lower_next : ℕ → State → State
 lower_next l s = record {
   labels = s.labels;

@@ -72,6 +72,11 @@ pub run-left : run_call settings 3 2 image (lent 7 8 148 14 57) ≡ left_buffers
 unfolding run_call
 run-left = refl
 
+-- n counts the slots, emptied ones included: next, the number that a new cluster would take, is 3 here (H2)
+pub run-slots : (run_call (small hierarchical_max 64) 2 2 (greys (10 ∷ 10 ∷ 10 ∷ 10 ∷ [])) (lent 4 4 105 8 40)).n ≡ 4
+unfolding run_call
+run-slots = refl
+
 -- just as long as asked for, and one of the five a number too short
 abbrev short : List Buffers
 short = lent 6 6 147 12 56 ∷ lent 5 6 147 12 56 ∷ lent 6 5 147 12 56 ∷ lent 6 6 146 12 56 ∷ lent 6 6 147 11 56

@@ -32,6 +32,11 @@ pub edges : exactly (pos 4) 65000 1 ∷ exactly (pos 4) 65001 1 ∷ exactly (pos
 unfolding run_answer
 edges = refl
 
+-- it is the product that counts: 250 × 260 passes, 255 × 255 gets 3
+pub area-edges : exactly (pos 4) 250 260 ∷ exactly (pos 4) 255 255 ∷ [] ≡ 0 ∷ 3 ∷ []
+unfolding run_answer
+area-edges = refl
+
 -- run, 2 × 1, lent so many image bytes, labels, links, table numbers, outputs and work numbers: exact and longer, one
 -- wrong each, 4 before 5
 abbrev run_lent : ℕ → ℕ → ℕ → ℕ → ℕ → ℕ → ℕ

@@ -15,7 +15,7 @@ abbrev pub greys : List ℕ → List ℕ
 greys [] = []
 greys (x ∷ xs) = grey x ++ greys xs
 
--- the key colour, and two pixels near it
+-- a pixel near the key colour, and the key colour
 abbrev pub pink : List ℕ
 pink = 250 ∷ 0 ∷ 255 ∷ 255 ∷ []
 
@@ -66,6 +66,8 @@ labelled_cases =
     ∷ square 100 200 8 8 4
     ∷ square 100 18 0 9 4
     ∷ square 8 100 200 8 4
+    -- alpha is not looked at
+    ∷ case 2 2 (greys (8 ∷ 8 ∷ 8 ∷ []) ++ (8 ∷ 8 ∷ 8 ∷ 0 ∷ [])) ten (stage1_labels (1 ∷ 2 ∷ 2 ∷ 2 ∷ []) ∷ [])
     -- like up and up-left; like left and up-left; at the bound, and one past it for both and for up-left
     ∷ square 8 8 200 18 2
     ∷ square 8 200 8 8 3
@@ -107,6 +109,17 @@ labelled_cases =
     (stage1_labels (1 ∷ 0 ∷ 0 ∷ 0 ∷ []) ∷ slot_count 3 ∷ outputs (1 ∷ 0 ∷ []) ∷ whole_slot 0
     ((2 ∷ 3 ∷ 0 ∷ 0 ∷ 2 ∷ 2 ∷ []) ++ (760 ∷ 0 ∷ 765 ∷ 765 ∷ 3 ∷ []) ++ (760 ∷ 0 ∷ 765 ∷ 765 ∷ 3 ∷ [])
     ++ (0 ∷ 0 ∷ 0 ∷ 0 ∷ 0 ∷ [])) ∷ [])
+    -- and where cluster 0 is left's
+    ∷ case 2 2 (grey 200 ++ pink ++ magenta ++ magenta) (keyed Keep) (stage1_labels (1 ∷ 2 ∷ 2 ∷ 0 ∷ []) ∷ [])
+    -- step 2 before steps 3 and 4: a key pixel that is like up, left and up-left
+    ∷ case 2 2 (pink ++ pink ++ pink ++ magenta) (keyed Keep) (stage1_labels (1 ∷ 2 ∷ 2 ∷ 0 ∷ []) ∷ [])
+    ∷ case 2 2 (pink ++ pink ++ pink ++ magenta) (keyed Discard) (stage1_labels (1 ∷ 2 ∷ 2 ∷ 0 ∷ []) ∷ [])
+    -- step 4 into cluster 0
+    ∷ case 2 2 (magenta ++ grey 200 ++ magenta ++ pink) (keyed Discard) (stage1_labels (0 ∷ 1 ∷ 0 ∷ 0 ∷ []) ∷ [])
+    -- rule 5.4: a kept key pixel is read by the label that it has by then. At pixel 6 cluster 0 goes into 2, with pixels 2
+    -- and 3, so that at pixel 7 up has label 2 and cluster 0 goes there once more
+    ∷ case 4 2 (pink ++ pink ++ magenta ++ magenta ++ pink ++ pink ++ magenta ++ magenta) (keyed Keep)
+    (stage1_labels (1 ∷ 2 ∷ 2 ∷ 2 ∷ 2 ∷ 2 ∷ 2 ∷ 0 ∷ []) ∷ outputs (0 ∷ 1 ∷ 2 ∷ []) ∷ [])
     -- a discarded pixel counts nowhere: cluster 0, which has no pixel, goes into left's, and its empty rectangle does
     -- not count
     ∷ case 2 2 (magenta ++ magenta ++ pink ++ pink) (keyed Discard)

@@ -89,16 +89,21 @@ ordered_cases =
     (labels (4 ∷ 4 ∷ 6 ∷ 4 ∷ 6 ∷ 6 ∷ []) ∷ outputs (4 ∷ 6 ∷ []) ∷ [])
     -- of two as near, right of it and below it, the smallest number
     ∷ case 2 2 (greys (50 ∷ 100 ∷ 0 ∷ 255 ∷ [])) (up_to_area 1) (labels (2 ∷ 2 ∷ 2 ∷ 2 ∷ []) ∷ outputs (2 ∷ []) ∷ [])
+    -- and where that one is found first, above it
+    ∷ case 2 2 (greys (0 ∷ 0 ∷ 50 ∷ 100 ∷ [])) (up_to_area 1) (outputs (2 ∷ []) ∷ [])
     -- by the averages of the sums cluster 2 is nearest to 3, by those of the residues 4 would be; the link of pixel 3
     -- stays in the list of cluster 2
     ∷ case 4 1 (greys (0 ∷ 200 ∷ 110 ∷ 130 ∷ [])) (deepening (pos 64))
     (outputs (1 ∷ 4 ∷ 2 ∷ []) ∷ all_links (3 ∷ 1 ∷ 4 ∷ 0 ∷ []) ∷ picture (greys (0 ∷ 155 ∷ 155 ∷ 130 ∷ [])) ∷ [])
+    -- its own sum too, not its own residue
+    ∷ case 3 2 (greys (0 ∷ 50 ∷ 0 ∷ 100 ∷ 50 ∷ 0 ∷ [])) (deepening (pos 64))
+    (outputs (1 ∷ 4 ∷ 2 ∷ 5 ∷ 6 ∷ []) ∷ [])
     -- averages are floors: 25 is 75 from 0 and 1
     ∷ case 3 1 (greys (0 ∷ 1 ∷ 25 ∷ [])) (deepening (pos 74)) (outputs (3 ∷ 2 ∷ []) ∷ [])
     -- alpha is in no difference, and is averaged in the picture
     ∷ case 2 1 (50 ∷ 50 ∷ 50 ∷ 0 ∷ 50 ∷ 50 ∷ 50 ∷ 255 ∷ []) (deepening (pos 64))
     (outputs (2 ∷ []) ∷ picture (50 ∷ 50 ∷ 50 ∷ 127 ∷ 50 ∷ 50 ∷ 50 ∷ 127 ∷ []) ∷ [])
-    -- a negative `deepen_diff` is exceeded by no difference at all
+    -- a negative `deepen_diff` is exceeded even by a difference of 0
     ∷ case 2 1 (greys (50 ∷ 50 ∷ [])) (deepening (negsuc 0)) (outputs (1 ∷ 2 ∷ []) ∷ [])
     -- it deepens exactly if `hierarchical` is 4,294,967,295
     ∷ case 2 1 (greys (0 ∷ 255 ∷ [])) (up_to_area 4294967295) (outputs (1 ∷ 2 ∷ []) ∷ [])
