@@ -27,10 +27,10 @@
  * Memory. All of it is the caller's, and the library allocates none. The length of a buffer counts its numbers, never
  * their sizeof; that of an image, a picture or a destination counts its bytes. What a call writes need not be cleared
  * or initialised, since no result depends on what it held, and must overlap nothing else that the call is given; what
- * is only read may be shared, also within one call. An exported function takes no NULL, not even with a length of 0. To
- * the functions by structs a buffer, an image, a picture or a destination that is NULL counts as one of length 0, and so
- * does a buffer that overlaps another or the image, and a picture or a destination that overlaps anything of the call:
- * each is refused by its name. Settings and buffers themselves may not be NULL.
+ * is only read may be shared, also within one call. An exported function takes no NULL, not even with a length of 0.
+ * To the functions by structs a buffer, an image, a picture or a destination that is NULL counts as one of length 0,
+ * and so does a buffer that overlaps another or the image, and a picture or a destination that overlaps anything of the
+ * call: each is refused by its name. Settings and buffers themselves may not be NULL.
  *
  * Threads. No call has a state of its own or keeps a pointer: calls with different buffers may run at the same time, in
  * any threads. What is only read may be shared. */

@@ -278,12 +278,12 @@ CALLS = {
 
 
 def overlaps():
-    """What refusals.c prints of every pair: three times they overlap, and then they touch."""
+    """What refusals.c prints of every pair: three times they overlap, and then they touch twice."""
     for place, later in enumerate(GIVEN):
         name = later.upper() if later in GIVEN[6:] else "BUFFER"
         for earlier in GIVEN[:place]:
             yield f"{earlier} and {later}"
-            for overlapping in (True, True, True, False):
+            for overlapping in (True, True, True, False, False):
                 for call, (tried, given) in CALLS.items():
                     if later in tried:
                         yield f" {call}: {full(name if overlapping and earlier in given else None)}"
@@ -332,8 +332,6 @@ BAD = [
      "incompatible type for argument 1", "cannot convert", "incompatible type", "no matching function"),
     ("n in place of the answer", PAINT, PAINT.replace("answer", "answer.n"),
      "incompatible type for argument 4", "could not convert", "incompatible type", "no matching function"),
-    ("no settings", RUN, RUN.replace("&settings", "NULL"), *["-Wnonnull"] * 4),
-    ("no buffers", RUN, RUN.replace("&buffers", "NULL"), *["-Wnonnull"] * 4),
     ("no image", RUN, RUN.replace("image", "NULL", 1), "-Wnonnull", "-Wnonnull", None, None),
     ("no picture", PAINT, PAINT.replace("picture", "NULL", 1), "-Wnonnull", "-Wnonnull", None, None),
     ("settings not set", SETTINGS, SETTINGS.replace(" = COLOR_CLUSTERS_DEFAULTS", ""), UNSET, UNSET, None, None),
@@ -360,15 +358,11 @@ BAD = [
      UNSET, UNSET, None, "default initialization"),
     *((f"{name} shorter than told", f"{name}[COLOR_CLUSTERS_{name.upper()}_LEN(PIXELS)]",
        f"{name}[COLOR_CLUSTERS_{name.upper()}_LEN(PIXELS) - 1]", SHORT, SHORT, None, None)
-      for name in ("labels", "links", "table", "work", "picture")),
+      for name in ("labels", "links", "table", "work")),
     ("outputs shorter than told", "COLOR_CLUSTERS_LEN(outputs)", "COLOR_CLUSTERS_LEN(outputs) + 1",
      SHORT, SHORT, None, None),
     ("a length in bytes", "COLOR_CLUSTERS_LEN(outputs)", "sizeof outputs", SHORT, SHORT, None, None),
     ("a block of bytes", "malloc(sizeof(uint32_t) * COLOR", "malloc(COLOR", SHORT, SHORT, None, None),
-    ("a run's picture shorter than told", "painted[COLOR_CLUSTERS_PICTURE_LEN(PIXELS)]", "painted[4 * PIXELS - 1]",
-     SHORT, SHORT, None, None),
-    ("an image shorter than told", "image[COLOR_CLUSTERS_IMAGE_LEN(PIXELS)]", "image[4 * PIXELS - 1]",
-     OVER, OVER, None, None),
 ]
 
 # Faults that do not compile at all, also with warnings off and the header among those of the system. The words of gcc,
@@ -437,14 +431,6 @@ class Warned(Compiled):
     def test_clang_does_not_compile_it_either(self):
         self.wrong([(CLANG, 2), (CLANGPP, 3)])
 
-    def test_image_and_picture_are_watched_without_optimisation_too(self):
-        for text, says in [("uint8_t image[", OVER), ("uint8_t picture[", SHORT), ("uint8_t painted[", SHORT)]:
-            self.assertEqual(self.GOOD.count(f" {text}COLOR"), 1)
-            self.put("bad.c", self.GOOD.replace(f" {text}COLOR", f" {text}-1 + COLOR").encode())
-            for line in (GCC, GPP):
-                with self.subTest(text, line=line):
-                    self.assertIn(says, self.compile(f"{line} -O0", "bad.c").stderr)
-
 
 # The functions of the header that answer, as what they answer, their name and their parameters.
 BARE = re.sub(r"\s+", " ", re.sub(r"/\*.*?\*/", " ", HEADER, flags=re.S))
@@ -456,9 +442,9 @@ def names_of(parameters):
     return re.findall(r"(\w+)(?:,|$)", parameters)
 
 
-def pointers_of(parameters):
-    """The names of those that are pointers, with what they point to."""
-    return {name: kind for kind, name in re.findall(r"((?:const )?\w+) \*(\w+)", parameters)}
+def pointers_of(parameters, kinds):
+    """The names of the pointers to these kinds, each with what it points to."""
+    return {name: kind for kind, name in re.findall(rf"((?:const )?(?:{kinds})) \*(\w+)", parameters)}
 
 
 class Told(Compiled):
@@ -484,13 +470,13 @@ class Told(Compiled):
 
     def nulls(self, lines):
         rows, none = [], []
-        for kind, name, parameters in EXPORTED:
-            names, pointers = names_of(parameters), pointers_of(parameters)
-            for pointer in [None, *pointers]:
-                given = ["NULL" if argument == pointer else argument for argument in names]
-                rows += [f"{kind} {name}_{pointer}({parameters}) {{ return {name}({', '.join(given)}); }}"]
-                none += rows[-1:] * bool(pointer)
-        self.assertEqual(len(none), 6 + 4 + 7 + 1 + 5)
+        for functions, kinds in [(EXPORTED, r"\w+"), (BY_STRUCTS, r"color_clusters_\w+")]:
+            for kind, name, parameters in functions:
+                for pointer in [None, *pointers_of(parameters, kinds)]:
+                    given = ["NULL" if argument == pointer else argument for argument in names_of(parameters)]
+                    rows += [f"{kind} {name}_{pointer}({parameters}) {{ return {name}({', '.join(given)}); }}"]
+                    none += rows[-1:] * bool(pointer)
+        self.assertEqual(len(none), 6 + 4 + 7 + 1 + 5 + 2 + 2 + 1 + 1)
         for line in lines:
             with self.subTest(line):
                 warned = self.warned(f"{line} -Wno-unused-parameter -O0", rows)
@@ -503,28 +489,30 @@ class Told(Compiled):
     def test_no_answer_may_be_dropped_with_clang(self):
         self.answers_dropped([CLANG, CLANGPP])
 
-    def test_no_exported_function_takes_null(self):
+    def test_null_is_warned_of(self):
         self.nulls([GCC, GPP])
 
     @unittest.skipUnless(shutil.which("clang++"), "clang is not installed")
-    def test_no_exported_function_takes_null_with_clang(self):
+    def test_null_is_warned_of_with_clang(self):
         self.nulls([CLANG, CLANGPP])
 
-    def test_no_exported_function_takes_an_array_shorter_than_told(self):
+    def test_an_array_shorter_than_told_is_warned_of(self):
         rows, short = [], set()
-        for kind, name, parameters in EXPORTED:
-            pointers = pointers_of(parameters)
-            lengths = {each: f"COLOR_CLUSTERS_{each.upper()}_LEN(4)" for each in pointers}
-            lengths.update({"destination": "COLOR_CLUSTERS_STORED_LEN(4, 1, 0)"} if "destination" in lengths else {})
-            given = [argument if argument in lengths else lengths.get(argument.removesuffix("_len"), "1")
-                     for argument in names_of(parameters)]
-            for shorter in [None, *pointers]:
-                arrays = [f"{of.split()[-1]} {each}[{lengths[each]}{' - 1' * (each == shorter)}] = {{0}};"
-                          for each, of in pointers.items()]
-                rows += [f"{kind} {name}_{shorter}(void) {{ {' '.join(arrays)} return {name}({', '.join(given)}); }}"]
+        for kind, name, parameters in EXPORTED + BY_STRUCTS:
+            arrays = pointers_of(parameters, "uint8_t|uint32_t")
+            lengths = {f"{array}_len": f"COLOR_CLUSTERS_{array.upper()}_LEN(4)" for array in arrays}
+            if "destination" in arrays:
+                lengths["destination_len"] = "COLOR_CLUSTERS_STORED_LEN(4, 1, 0)"
+            call = f"{name}({', '.join(lengths.get(argument, argument) for argument in names_of(parameters))})"
+            # The others are arguments of the row too.
+            others = [each for each in parameters.split(", ") if names_of(each)[0] not in {*arrays, *lengths}]
+            for shorter in [None, *arrays]:
+                own = [f"{of.split()[-1]} {array}[{lengths[f'{array}_len']}{' - 1' * (array == shorter)}] = {{0}};"
+                       for array, of in arrays.items()]
+                rows += [f"{kind} {name}_{shorter}({', '.join(others)}) {{ {' '.join(own)} return {call}; }}"]
                 if shorter:
-                    short.add((rows[-1], OVER if pointers[shorter].startswith("const") else SHORT))
-        self.assertEqual(len(short), 6 + 4 + 7 + 1 + 5)
+                    short.add((rows[-1], OVER if arrays[shorter].startswith("const") else SHORT))
+        self.assertEqual(len(short), 6 + 4 + 7 + 1 + 5 + 1 + 2 + 1 + 1)
         for line in (GCC, GPP):
             for optimised in ("-O0", "-O2"):
                 with self.subTest(f"{line} {optimised}"):
@@ -569,6 +557,15 @@ class Alone(Compiled):
             if line.startswith("g++"):
                 with self.subTest(line):
                     self.clean(line, "inside.c")
+
+    def test_a_compiler_may_know_no_attributes(self):
+        # It speaks GNU C, and is told before the header that it does not. It warns of that.
+        unknown = "#include <stdint.h>\n#include <stdlib.h>\n#undef __GNUC__\n#undef __has_attribute\n"
+        self.put("plain.c", f"{unknown}{(PROGRAMS / 'good.c').read_text()}".encode())
+        for line in (GCC, GPP):
+            with self.subTest(line):
+                result = self.compile(line, "plain.c")
+                self.assertEqual((result.returncode, "[-W" in result.stderr), (0, False), result.stderr)
 
     def test_two_units_that_use_it_link(self):
         for line in LINES:
@@ -641,11 +638,11 @@ store: COLOR_CLUSTERS_ACCEPTED
 
 
 class Constants(Compiled):
-    def values(self, line, expressions, after=""):
-        """The values of expressions, after these declarations, as the compiler has them."""
+    def values(self, line, expressions, before="", after=""):
+        """The values of expressions, as the compiler has them, with this before the header and these declarations."""
         rows = "".join(f'    printf("%lld\\n", (long long)({text}));\n' for text in expressions)
         main = f"int main(void)\n{{\n{after}\n{rows}    return 0;\n}}\n"
-        source = f'#include <stdio.h>\n#include "color_clusters.h"\n{main}'
+        source = f'#include <stdint.h>\n#include <stdio.h>\n{before}\n#include "color_clusters.h"\n{main}'
         self.put("values.c", source.encode())
         self.clean(line, "values.c")
         self.link(line, "object.o")
@@ -680,11 +677,13 @@ class Constants(Compiled):
             self.assertEqual(self.values(line, texts), expected)
 
     def test_lengths_of_variables_do_not_wrap(self):
+        # Nor do products with them.
         for line in (C, CPP):
             for large in (65536, 2**32 - 1):
-                texts = [*self.lengths("large"), "color_clusters_at(large, COLOR_CLUSTERS_NEXT_HOLE)"]
-                found = self.values(line, texts, f"const uint32_t large = {large}u;")
-                self.assertEqual([value % 2**64 for value in found], [*self.of_the_rules(large), 21 * large + 20])
+                texts = [*self.lengths("1 ? large : 0"), "color_clusters_at(large, COLOR_CLUSTERS_NEXT_HOLE)"]
+                found = self.values(line, [f"{text} * 3" for text in texts], after=f"const uint32_t large = {large}u;")
+                expected = [*self.of_the_rules(large), 21 * large + 20]
+                self.assertEqual([value % 2**64 for value in found], [3 * value % 2**64 for value in expected])
 
     def test_a_room_has_exactly_the_lengths_and_is_lent_whole(self):
         rooms = "typedef COLOR_CLUSTERS_ROOM(2 + 4) rooms; static rooms two[2]; rooms *const pointer = &two[1];"
@@ -699,8 +698,9 @@ class Constants(Compiled):
             for name, place in [("one", 1), ("same", 1), ("first", 0)]:
                 texts += [f"{name}.{field} == two[{place}].{field}", f"{name}.{field}_len"]
                 expected += [1, length]
-        for line in (C, CPP):
-            self.assertEqual(self.values(line, texts, " ".join([rooms, *lent])), expected)
+        # The last is for a compiler that speaks neither C++ nor GNU C.
+        for line, before in [(C, ""), (CPP, ""), (C, "#undef __GNUC__")]:
+            self.assertEqual(self.values(line, texts, before, " ".join([rooms, *lent])), expected)
 
     def test_the_limit_is_the_library_s(self):
         [limit] = self.values(C, ["COLOR_CLUSTERS_LIMIT"])

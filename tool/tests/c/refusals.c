@@ -211,7 +211,7 @@ static void calls_of(int one, size_t one_at, int other, size_t other_at)
     }
 }
 
-/* Any two that begin together, that share an element at the end of the one or of the other, and that touch. The pool
+/* Any two that begin together, that share one element at an end of either, and that touch at an end of either. The pool
  * is zero, so that each number can be stored. */
 static void overlaps(void)
 {
@@ -225,6 +225,7 @@ static void overlaps(void)
             calls_of(one, 0, other, given[one].bytes - given[other].element);
             calls_of(one, given[other].bytes - given[one].element, other, 0);
             calls_of(one, 0, other, given[one].bytes);
+            calls_of(one, given[other].bytes, other, 0);
         }
     }
 }
