@@ -171,8 +171,8 @@ static const struct {
     {"destination", COLOR_CLUSTERS_STORED_LEN(PIXELS, 1, 0), 1},
 };
 
-/* All calls that take both of two, at these bytes of the pool. */
-static void calls_of(int one, size_t one_at, int other, size_t other_at)
+/* The calls that are given the later of two, which lie at these bytes of the pool; not all are given the earlier. */
+static void calls_of(int earlier, size_t earlier_at, int later, size_t later_at)
 {
     const color_clusters_answer left = {COLOR_CLUSTERS_ACCEPTED, 1, 0};
     color_clusters_buffers buffers = COLOR_CLUSTERS_LEND(lent.room);
@@ -185,27 +185,27 @@ static void calls_of(int one, size_t one_at, int other, size_t other_at)
     at[IMAGE] = lent.image;
     at[PICTURE] = lent.picture;
     at[DESTINATION] = lent.stored;
-    at[one] = (unsigned char *)lent.pool + one_at;
-    at[other] = (unsigned char *)lent.pool + other_at;
+    at[earlier] = (unsigned char *)lent.pool + earlier_at;
+    at[later] = (unsigned char *)lent.pool + later_at;
     buffers.labels = (uint32_t *)at[LABELS];
     buffers.links = (uint32_t *)at[LINKS];
     buffers.table = (uint32_t *)at[TABLE];
     buffers.outputs = (uint32_t *)at[OUTPUTS];
     buffers.work = (uint32_t *)at[WORK];
-    if (other <= IMAGE) {
+    if (later <= IMAGE) {
         print_answer(" run", color_clusters_run_with(
             &defaults, W, H, (uint8_t *)at[IMAGE], given[IMAGE].bytes, &buffers));
     }
-    if (other <= PICTURE) {
+    if (later <= PICTURE) {
         print_answer(" run and paint", color_clusters_run_and_paint_with(
             &defaults, W, H, (uint8_t *)at[IMAGE], given[IMAGE].bytes, &buffers,
             (uint8_t *)at[PICTURE], given[PICTURE].bytes));
     }
-    if (other == PICTURE) {
+    if (later == PICTURE) {
         print(" paint", color_clusters_paint_with(
             W, H, &buffers, left, (uint8_t *)at[PICTURE], given[PICTURE].bytes));
     }
-    if (other == DESTINATION) {
+    if (later == DESTINATION) {
         print(" store", color_clusters_store_with(
             W, H, &buffers, left, (uint8_t *)at[DESTINATION], given[DESTINATION].bytes));
     }
@@ -215,17 +215,18 @@ static void calls_of(int one, size_t one_at, int other, size_t other_at)
  * is zero, so that each number can be stored. */
 static void overlaps(void)
 {
-    int one, other;
-    for (other = 1; other < GIVEN; other++) {
-        for (one = 0; one < other; one++) {
+    int earlier, later;
+    for (later = 1; later < GIVEN; later++) {
+        for (earlier = 0; earlier < later; earlier++) {
+            const size_t bytes = given[earlier].bytes, later_bytes = given[later].bytes;
             memset(&lent, 0, sizeof lent);
             memcpy(&before, &lent, sizeof lent);
-            printf("%s and %s\n", given[one].name, given[other].name);
-            calls_of(one, 0, other, 0);
-            calls_of(one, 0, other, given[one].bytes - given[other].element);
-            calls_of(one, given[other].bytes - given[one].element, other, 0);
-            calls_of(one, 0, other, given[one].bytes);
-            calls_of(one, given[other].bytes, other, 0);
+            printf("%s and %s\n", given[earlier].name, given[later].name);
+            calls_of(earlier, 0, later, 0);
+            calls_of(earlier, 0, later, bytes - given[later].element);
+            calls_of(earlier, later_bytes - given[earlier].element, later, 0);
+            calls_of(earlier, 0, later, bytes);
+            calls_of(earlier, later_bytes, later, 0);
         }
     }
 }
