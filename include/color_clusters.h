@@ -4,8 +4,9 @@
  * large: each merges into the neighbour nearest in colour, or stays a patch inside it where it differs enough. Painting
  * gives the pixels of each patch their average colour.
  *
- *     static COLOR_CLUSTERS_ROOM(64 * 64) room;
- *     color_clusters_buffers buffers = COLOR_CLUSTERS_LEND(room);
+ *     const size_t pixels = COLOR_CLUSTERS_PIXELS(w, h), block_len = COLOR_CLUSTERS_BLOCK_LEN(pixels);
+ *     uint32_t *block = (uint32_t *)malloc(sizeof(uint32_t) * block_len);
+ *     color_clusters_buffers buffers = color_clusters_buffers_in(block, block_len, pixels);
  *     color_clusters_settings settings = COLOR_CLUSTERS_DEFAULTS;
  *     color_clusters_answer answer;
  *
@@ -14,18 +15,22 @@
  *     if (answer.number != COLOR_CLUSTERS_ACCEPTED) {
  *         fprintf(stderr, "%s\n", color_clusters_refusal_name(answer.number));
  *     }
+ *     free(block);
  *
  * tool/tests/c/example.c is a whole program. The exact rules are docs/RULES.md, cited here by section.
  *
  * Answers. Every call answers a number: 0, or the number of the first check that failed (color_clusters_refusal). A
  * call that is refused changes nothing that it was lent, and its n and m are 0. Any numbers, lengths and contents are
- * safe to pass, as long as each pointer has as many elements as its length says.
+ * safe to pass, as long as no pointer is NULL, each has as many elements as its length says, and nothing that is lent
+ * overlaps anything else of the call.
  *
- * Memory. All of it is the caller's, and the library allocates none. A buffer is a pointer and a length in elements. It
- * need not be cleared or initialised: no result depends on what it held. Buffers, image, picture and destination of one
- * call must not overlap. An exported function takes no NULL, not even with a length of 0. The functions by structs take
- * NULL in place of a buffer, an image, a picture or a destination for one of length 0, so that it is refused by its
- * name; settings and buffers themselves may not be NULL.
+ * Memory. All of it is the caller's, and the library allocates none. The length of a buffer counts its numbers, never
+ * their sizeof; that of an image, a picture or a destination counts its bytes. What a call writes need not be cleared
+ * or initialised, since no result depends on what it held, and must overlap nothing else that the call is given; what
+ * is only read may be shared, also within one call. An exported function takes no NULL, not even with a length of 0.
+ * To the functions by structs a buffer, an image, a picture or a destination that is NULL counts as one of length 0,
+ * and so does a buffer that overlaps another or the image, and a picture or a destination that overlaps anything of the
+ * call: each is refused by its name. Settings and buffers themselves may not be NULL.
  *
  * Threads. No call has a state of its own or keeps a pointer: calls with different buffers may run at the same time, in
  * any threads. What is only read may be shared. */
@@ -34,6 +39,32 @@
 
 #include <stddef.h>
 #include <stdint.h>
+
+/* ---- What the compiler is told, where it listens ---- */
+
+/* That an answer is not to be dropped and that no pointer is NULL, by structs none at these places; and which argument
+ * is the length of what is read or written, so that an array shorter than told draws a warning. What is only read must
+ * be initialised; the rest need not be. The functions by structs are always inlined, for only so are the lengths in
+ * buffers seen. Underscores keep the words apart from macros of a program. */
+#ifdef __has_attribute
+#if __has_attribute(__warn_unused_result__) && __has_attribute(__nonnull__)
+#define COLOR_CLUSTERS_ANSWERS_ __attribute__((__warn_unused_result__, __nonnull__))
+#define COLOR_CLUSTERS_ANSWERS_BY_STRUCTS_(...) \
+    __attribute__((__warn_unused_result__, __always_inline__, __nonnull__(__VA_ARGS__)))
+#endif
+#if __has_attribute(__access__)
+#define COLOR_CLUSTERS_READS_(pointer, length) __attribute__((__access__(__read_only__, pointer, length)))
+#define COLOR_CLUSTERS_WRITES_(pointer, length) __attribute__((__access__(__write_only__, pointer, length)))
+#endif
+#endif
+#ifndef COLOR_CLUSTERS_ANSWERS_
+#define COLOR_CLUSTERS_ANSWERS_
+#define COLOR_CLUSTERS_ANSWERS_BY_STRUCTS_(...)
+#endif
+#ifndef COLOR_CLUSTERS_READS_
+#define COLOR_CLUSTERS_READS_(pointer, length)
+#define COLOR_CLUSTERS_WRITES_(pointer, length)
+#endif
 
 /* ---- Sizes (rules, sections 3 and 11) ---- */
 
@@ -59,6 +90,11 @@
 #define COLOR_CLUSTERS_TABLE_LEN(pixels) (COLOR_CLUSTERS_SLOT_WIDTH * (COLOR_CLUSTERS_SIZE_(pixels) + 1))
 #define COLOR_CLUSTERS_OUTPUTS_LEN(pixels) (2 * COLOR_CLUSTERS_SIZE_(pixels))
 #define COLOR_CLUSTERS_WORK_LEN(pixels) (8 * COLOR_CLUSTERS_SIZE_(pixels) + 8)
+
+/* How many numbers the five take in one block of memory. */
+#define COLOR_CLUSTERS_BLOCK_LEN(pixels) \
+    (COLOR_CLUSTERS_LABELS_LEN(pixels) + COLOR_CLUSTERS_LINKS_LEN(pixels) + COLOR_CLUSTERS_TABLE_LEN(pixels) + \
+     COLOR_CLUSTERS_OUTPUTS_LEN(pixels) + COLOR_CLUSTERS_WORK_LEN(pixels))
 
 /* ---- Refusals (rules, section 3) ---- */
 
@@ -154,7 +190,8 @@ typedef struct {
 
 /* What a run writes, and painting and storing read. The number of a pixel is its column + w * its row. */
 typedef struct {
-    /* Of each pixel the number of its cluster; of several inside each other, that of the largest. 0 if discarded. */
+    /* Of each pixel the number of its cluster; of several inside each other, that of the largest. 0 if discarded, and 0
+     * of a pixel of cluster 0, which is in the list of that cluster. */
     uint32_t *labels;
     size_t labels_len;
     /* Of each pixel the one after it in the list of the cluster of its label, as pixel number + 1; 0 ends the list. */
@@ -163,7 +200,8 @@ typedef struct {
     /* n slots, one for each cluster number from 0 on, of the numbers of color_clusters_place. */
     uint32_t *table;
     size_t table_len;
-    /* m cluster numbers: what is painted, from the last to the first. One may stand twice. */
+    /* m cluster numbers: what is painted, from the last to the first. One may stand twice. With a key that is kept and
+     * hierarchical below its default one may be missing, and its pixels stay (0,0,0,0). */
     uint32_t *outputs;
     size_t outputs_len;
     /* What the run notes for itself: zero afterwards, in its whole length. */
@@ -184,13 +222,13 @@ typedef enum {
     COLOR_CLUSTERS_SUM_B,
     COLOR_CLUSTERS_SUM_A,
     COLOR_CLUSTERS_SUM_COUNT,
-    COLOR_CLUSTERS_RESIDUE_R,     /* the same without those of the patches inside it: their average is painted */
-    COLOR_CLUSTERS_RESIDUE_G,
+    COLOR_CLUSTERS_RESIDUE_R,     /* the same without those of the patches inside it: the average of this is painted; */
+    COLOR_CLUSTERS_RESIDUE_G,     /* in an empty slot it is left over, with all that follows */
     COLOR_CLUSTERS_RESIDUE_B,
     COLOR_CLUSTERS_RESIDUE_A,
     COLOR_CLUSTERS_RESIDUE_COUNT,
     COLOR_CLUSTERS_MERGED_INTO,   /* the cluster inside which it became a patch, which may have merged since; 0: none */
-    COLOR_CLUSTERS_DEPTH,         /* how many clusters became patches inside it */
+    COLOR_CLUSTERS_DEPTH,         /* how many clusters became patches right inside it */
     COLOR_CLUSTERS_NUM_HOLES,     /* how many of these are its holes */
     COLOR_CLUSTERS_FIRST_HOLE,    /* the first hole, as cluster number + 1; 0: none */
     COLOR_CLUSTERS_NEXT_HOLE,     /* of a hole, the next one of the same cluster, as cluster number + 1; 0: none */
@@ -204,7 +242,9 @@ static inline size_t color_clusters_at(uint32_t cluster, color_clusters_place pl
     return COLOR_CLUSTERS_SLOT_WIDTH * COLOR_CLUSTERS_SIZE_(cluster) + within;
 }
 
-/* A struct with the five buffers for up to so many pixels, a constant: above the limit it does not compile. */
+/* A struct with the five buffers for an image of so many pixels or fewer, a constant: above the limit, or of a size
+ * known only at run time, it does not compile. It takes 132 bytes a pixel and some more: a large one is static, or from
+ * malloc, and not a local. */
 #define COLOR_CLUSTERS_ROOM(pixels) \
     struct { \
         uint32_t labels[COLOR_CLUSTERS_LABELS_LEN(pixels)]; \
@@ -212,11 +252,24 @@ static inline size_t color_clusters_at(uint32_t cluster, color_clusters_place pl
         uint32_t table[COLOR_CLUSTERS_TABLE_LEN(pixels)]; \
         uint32_t outputs[COLOR_CLUSTERS_OUTPUTS_LEN(pixels)]; \
         uint32_t work[COLOR_CLUSTERS_WORK_LEN(pixels)]; \
-        char within_the_limit[(pixels) <= COLOR_CLUSTERS_LIMIT ? 1 : -1]; \
+        unsigned within_the_limit : (pixels) <= COLOR_CLUSTERS_LIMIT ? 1 : -1; \
     }
 
-/* The length of an array; a pointer in its place draws a warning. */
+/* The length of an array; with a pointer or a class in its place it does not compile. In three ways: C++ tells an array
+ * by a template, GNU C by its type, which is not that of a pointer to its first element, and plain C cannot tell. The
+ * template is one of C++ also where a program includes this file as C. */
+#ifdef __cplusplus
+extern "C++" {
+template <class Element, size_t len> char (&color_clusters_len_(const Element (&array)[len]))[len];
+}
+#define COLOR_CLUSTERS_LEN(array) sizeof(color_clusters_len_(array))
+#elif defined __GNUC__
+#define COLOR_CLUSTERS_LEN(array) \
+    (sizeof(array) / sizeof((array)[0]) * \
+     sizeof(char[__builtin_types_compatible_p(__typeof__(array), __typeof__(&(array)[0])) ? -1 : 1]))
+#else
 #define COLOR_CLUSTERS_LEN(array) (sizeof(array) / sizeof((array)[0]))
+#endif
 
 /* Initialises color_clusters_buffers from a struct with arrays of these names, such as a COLOR_CLUSTERS_ROOM. */
 #define COLOR_CLUSTERS_LEND(room) \
@@ -224,37 +277,37 @@ static inline size_t color_clusters_at(uint32_t cluster, color_clusters_place pl
      (room).table, COLOR_CLUSTERS_LEN((room).table), (room).outputs, COLOR_CLUSTERS_LEN((room).outputs), \
      (room).work, COLOR_CLUSTERS_LEN((room).work)}
 
-/* ---- The exported functions ---- */
+/* Cuts a buffer of so many numbers from the front of a block. */
+static inline void color_clusters_cut_(uint32_t **block, size_t len, uint32_t **buffer, size_t *buffer_len)
+{
+    *buffer = *block;
+    *buffer_len = len;
+    *block += len;
+}
 
-/* What the compiler is told, where it listens: that an answer is not to be dropped, that a pointer is not NULL, and
- * which argument is the length of what is read or written, so that an array shorter than told draws a warning. What is
- * only read must be initialised; the rest need not be. */
-#ifdef __has_attribute
-#if __has_attribute(warn_unused_result)
-#define COLOR_CLUSTERS_ANSWERS_ __attribute__((warn_unused_result))
-#endif
-#if __has_attribute(nonnull)
-#define COLOR_CLUSTERS_GIVEN_(pointer) __attribute__((nonnull(pointer)))
-#endif
-#if __has_attribute(access)
-#define COLOR_CLUSTERS_READS_(pointer, length) __attribute__((access(read_only, pointer, length)))
-#define COLOR_CLUSTERS_WRITES_(pointer, length) __attribute__((access(write_only, pointer, length)))
-#endif
-#endif
-#ifndef COLOR_CLUSTERS_ANSWERS_
-#define COLOR_CLUSTERS_ANSWERS_
-#endif
-#ifndef COLOR_CLUSTERS_GIVEN_
-#define COLOR_CLUSTERS_GIVEN_(pointer)
-#endif
-#ifndef COLOR_CLUSTERS_READS_
-#define COLOR_CLUSTERS_READS_(pointer, length)
-#define COLOR_CLUSTERS_WRITES_(pointer, length)
-#endif
+/* The five buffers for so many pixels, known at run time, in one block of COLOR_CLUSTERS_BLOCK_LEN(pixels) numbers:
+ * malloc(sizeof(uint32_t) * COLOR_CLUSTERS_BLOCK_LEN(pixels)). Where it is NULL, or its length is less, or the pixels
+ * are above the limit, the buffers have length 0, and a run refuses them by name. */
+COLOR_CLUSTERS_WRITES_(1, 2)
+static inline color_clusters_buffers color_clusters_buffers_in(uint32_t *block, size_t block_len, size_t pixels)
+{
+    color_clusters_buffers buffers = {block, 0, block, 0, block, 0, block, 0, block, 0};
+    if (block && pixels <= COLOR_CLUSTERS_LIMIT && block_len >= COLOR_CLUSTERS_BLOCK_LEN(pixels)) {
+        color_clusters_cut_(&block, COLOR_CLUSTERS_LABELS_LEN(pixels), &buffers.labels, &buffers.labels_len);
+        color_clusters_cut_(&block, COLOR_CLUSTERS_LINKS_LEN(pixels), &buffers.links, &buffers.links_len);
+        color_clusters_cut_(&block, COLOR_CLUSTERS_TABLE_LEN(pixels), &buffers.table, &buffers.table_len);
+        color_clusters_cut_(&block, COLOR_CLUSTERS_OUTPUTS_LEN(pixels), &buffers.outputs, &buffers.outputs_len);
+        color_clusters_cut_(&block, COLOR_CLUSTERS_WORK_LEN(pixels), &buffers.work, &buffers.work_len);
+    }
+    return buffers;
+}
+
+/* ---- The exported functions ---- */
 
 typedef struct {
     uint32_t number; /* 0, or the number of the first check that failed */
-    uint32_t n;      /* cluster slots, empty ones too */
+    uint32_t n;      /* cluster slots, empty ones too: of those PIXEL_COUNT is 0, and what stands from RESIDUE_R on is
+                      * left over */
     uint32_t m;      /* output entries */
 } color_clusters_answer;
 
@@ -330,59 +383,127 @@ uint32_t color_clusters_store(
     COLOR_CLUSTERS_PASS_((b)->labels, (b)->labels_len, none), COLOR_CLUSTERS_PASS_SHEET_(b, none), \
     COLOR_CLUSTERS_PASS_((b)->work, (b)->work_len, none)
 
+/* Memory between two ends; none where it is NULL. */
+typedef struct {
+    const void *begin, *end;
+} color_clusters_range_;
+
+#define COLOR_CLUSTERS_RANGE_(pointer, len) {(pointer), (pointer) ? (pointer) + (len) : (pointer)}
+#define COLOR_CLUSTERS_RANGES_OF_SHEET_(b) \
+    COLOR_CLUSTERS_RANGE_((b)->links, (b)->links_len), COLOR_CLUSTERS_RANGE_((b)->table, (b)->table_len), \
+    COLOR_CLUSTERS_RANGE_((b)->outputs, (b)->outputs_len)
+#define COLOR_CLUSTERS_RANGES_OF_BUFFERS_(b) \
+    COLOR_CLUSTERS_RANGE_((b)->labels, (b)->labels_len), COLOR_CLUSTERS_RANGES_OF_SHEET_(b), \
+    COLOR_CLUSTERS_RANGE_((b)->work, (b)->work_len)
+
+/* Whether one of so many ranges, of those from this place on, overlaps one before it. Their addresses are compared, of
+ * which C itself says nothing where the ranges lie in different objects. */
+static inline int color_clusters_overlap_(const color_clusters_range_ *ranges, size_t count, size_t place)
+{
+    size_t before;
+    for (; place < count; place++) {
+        for (before = 0; before < place; before++) {
+            if (ranges[before].begin < ranges[place].end && ranges[place].begin < ranges[before].end) {
+                return 1;
+            }
+        }
+    }
+    return 0;
+}
+
+/* A run without buffers, in place of one whose buffers overlap: refused, by the same checks in the same order. */
+static inline color_clusters_answer color_clusters_without_buffers_(
+    const color_clusters_settings *settings, uint32_t w, uint32_t h, const uint8_t *image, size_t image_len)
+{
+    uint32_t none = 0;
+    uint8_t no_byte = 0;
+    return color_clusters_run(
+        COLOR_CLUSTERS_PASS_SETTINGS_(settings), w, h, COLOR_CLUSTERS_PASS_(image, image_len, &no_byte),
+        &none, 0, &none, 0, &none, 0, &none, 0, &none, 0);
+}
+
 /* color_clusters_run. */
-COLOR_CLUSTERS_ANSWERS_ COLOR_CLUSTERS_GIVEN_(1) COLOR_CLUSTERS_READS_(4, 5) COLOR_CLUSTERS_GIVEN_(6)
+COLOR_CLUSTERS_ANSWERS_BY_STRUCTS_(1, 6) COLOR_CLUSTERS_READS_(4, 5)
 static inline color_clusters_answer color_clusters_run_with(
     const color_clusters_settings *settings, uint32_t w, uint32_t h, const uint8_t *image, size_t image_len,
     const color_clusters_buffers *buffers)
 {
+    const color_clusters_range_ ranges[] = {
+        COLOR_CLUSTERS_RANGES_OF_BUFFERS_(buffers), COLOR_CLUSTERS_RANGE_(image, image_len)};
     uint32_t no_number = 0;
     uint8_t no_byte = 0;
+    if (color_clusters_overlap_(ranges, COLOR_CLUSTERS_LEN(ranges), 0)) {
+        return color_clusters_without_buffers_(settings, w, h, image, image_len);
+    }
     return color_clusters_run(
         COLOR_CLUSTERS_PASS_SETTINGS_(settings), w, h, COLOR_CLUSTERS_PASS_(image, image_len, &no_byte),
         COLOR_CLUSTERS_PASS_BUFFERS_(buffers, &no_number));
 }
 
 /* color_clusters_run_and_paint. */
-COLOR_CLUSTERS_ANSWERS_ COLOR_CLUSTERS_GIVEN_(1) COLOR_CLUSTERS_READS_(4, 5) COLOR_CLUSTERS_GIVEN_(6)
-COLOR_CLUSTERS_WRITES_(7, 8)
+COLOR_CLUSTERS_ANSWERS_BY_STRUCTS_(1, 6) COLOR_CLUSTERS_READS_(4, 5) COLOR_CLUSTERS_WRITES_(7, 8)
 static inline color_clusters_answer color_clusters_run_and_paint_with(
     const color_clusters_settings *settings, uint32_t w, uint32_t h, const uint8_t *image, size_t image_len,
     const color_clusters_buffers *buffers, uint8_t *picture, size_t picture_len)
 {
+    const color_clusters_range_ ranges[] = {
+        COLOR_CLUSTERS_RANGES_OF_BUFFERS_(buffers), COLOR_CLUSTERS_RANGE_(image, image_len),
+        COLOR_CLUSTERS_RANGE_(picture, picture_len)};
+    const size_t count = COLOR_CLUSTERS_LEN(ranges);
     uint32_t no_number = 0;
     uint8_t no_byte = 0;
+    if (color_clusters_overlap_(ranges, count - 1, 0)) {
+        return color_clusters_without_buffers_(settings, w, h, image, image_len);
+    }
+    if (color_clusters_overlap_(ranges, count, count - 1)) {
+        picture_len = 0;
+    }
     return color_clusters_run_and_paint(
         COLOR_CLUSTERS_PASS_SETTINGS_(settings), w, h, COLOR_CLUSTERS_PASS_(image, image_len, &no_byte),
         COLOR_CLUSTERS_PASS_BUFFERS_(buffers, &no_number), COLOR_CLUSTERS_PASS_(picture, picture_len, &no_byte));
 }
 
-/* color_clusters_paint of what a run left. Where that run was refused its number is answered again. */
-COLOR_CLUSTERS_ANSWERS_ COLOR_CLUSTERS_GIVEN_(3) COLOR_CLUSTERS_WRITES_(5, 6)
+/* color_clusters_paint of what a run left in links, table and outputs. Where that run was refused its number is
+ * answered again. */
+COLOR_CLUSTERS_ANSWERS_BY_STRUCTS_(3) COLOR_CLUSTERS_WRITES_(5, 6)
 static inline uint32_t color_clusters_paint_with(
     uint32_t w, uint32_t h, const color_clusters_buffers *buffers, color_clusters_answer answer,
     uint8_t *picture, size_t picture_len)
 {
+    const color_clusters_range_ ranges[] = {
+        COLOR_CLUSTERS_RANGES_OF_SHEET_(buffers), COLOR_CLUSTERS_RANGE_(picture, picture_len)};
+    const size_t count = COLOR_CLUSTERS_LEN(ranges);
     uint32_t no_number = 0;
     uint8_t no_byte = 0;
     if (answer.number != COLOR_CLUSTERS_ACCEPTED) {
         return answer.number;
+    }
+    if (color_clusters_overlap_(ranges, count, count - 1)) {
+        picture_len = 0;
     }
     return color_clusters_paint(
         w, h, COLOR_CLUSTERS_PASS_SHEET_(buffers, &no_number), COLOR_CLUSTERS_PASS_(picture, picture_len, &no_byte),
         answer.n, answer.m);
 }
 
-/* color_clusters_store of what a run left. Where that run was refused its number is answered again. */
-COLOR_CLUSTERS_ANSWERS_ COLOR_CLUSTERS_GIVEN_(3) COLOR_CLUSTERS_WRITES_(5, 6)
+/* color_clusters_store of what a run left in labels, links, table and outputs. Where that run was refused its number is
+ * answered again. */
+COLOR_CLUSTERS_ANSWERS_BY_STRUCTS_(3) COLOR_CLUSTERS_WRITES_(5, 6)
 static inline uint32_t color_clusters_store_with(
     uint32_t w, uint32_t h, const color_clusters_buffers *buffers, color_clusters_answer answer,
     uint8_t *destination, size_t destination_len)
 {
+    const color_clusters_range_ ranges[] = {
+        COLOR_CLUSTERS_RANGE_(buffers->labels, buffers->labels_len), COLOR_CLUSTERS_RANGES_OF_SHEET_(buffers),
+        COLOR_CLUSTERS_RANGE_(destination, destination_len)};
+    const size_t count = COLOR_CLUSTERS_LEN(ranges);
     uint32_t no_number = 0;
     uint8_t no_byte = 0;
     if (answer.number != COLOR_CLUSTERS_ACCEPTED) {
         return answer.number;
+    }
+    if (color_clusters_overlap_(ranges, count, count - 1)) {
+        destination_len = 0;
     }
     return color_clusters_store(
         w, h, COLOR_CLUSTERS_PASS_(buffers->labels, buffers->labels_len, &no_number),
@@ -394,8 +515,11 @@ static inline uint32_t color_clusters_store_with(
 #undef COLOR_CLUSTERS_PASS_SETTINGS_
 #undef COLOR_CLUSTERS_PASS_SHEET_
 #undef COLOR_CLUSTERS_PASS_BUFFERS_
+#undef COLOR_CLUSTERS_RANGE_
+#undef COLOR_CLUSTERS_RANGES_OF_SHEET_
+#undef COLOR_CLUSTERS_RANGES_OF_BUFFERS_
 #undef COLOR_CLUSTERS_ANSWERS_
-#undef COLOR_CLUSTERS_GIVEN_
+#undef COLOR_CLUSTERS_ANSWERS_BY_STRUCTS_
 #undef COLOR_CLUSTERS_READS_
 #undef COLOR_CLUSTERS_WRITES_
 

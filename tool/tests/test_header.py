@@ -54,10 +54,11 @@ class Compiled(Case):
         result = subprocess.run(words, cwd=self.folder, capture_output=True, timeout=PATIENCE, text=True)
         self.assertEqual((result.returncode, result.stderr), (0, ""), words)
 
-    def run_program(self, *words):
-        """What the program of the folder prints; it must end well."""
-        result = subprocess.run(["./program", *words], cwd=self.folder, capture_output=True, timeout=PATIENCE, text=True)
-        self.assertEqual((result.returncode, result.stderr), (0, ""), result.stdout)
+    def run_program(self, *words, error=""):
+        """What the program of the folder prints; it must end well, with this on the other stream."""
+        words = ["./program", *words]
+        result = subprocess.run(words, cwd=self.folder, capture_output=True, timeout=PATIENCE, text=True)
+        self.assertEqual((result.returncode, result.stderr), (0, error), result.stdout)
         return result.stdout
 
     def printed(self, name, line, *words, library=ARCHIVE):
@@ -140,12 +141,42 @@ stored 2 2 2 1 0 0 0 0 1 4 1 0 0 0 3 2 1
 """
 
 
+# A program around the example of the header.
+EXAMPLE_AROUND = """\
+#include <stdio.h>
+#include <stdlib.h>
+#include "color_clusters.h"
+
+int main(void)
+{{
+    const uint32_t w = 2, h = {};
+    const uint8_t image[] = {{0, 0, 0, 255, 0, 0, 0, 255}};
+    const size_t image_len = sizeof image, picture_len = COLOR_CLUSTERS_PICTURE_LEN(COLOR_CLUSTERS_PIXELS(w, h));
+    uint8_t picture[16];
+{}
+    return 0;
+}}
+"""
+
+
 class Programs(Compiled):
     def test_the_example_prints_what_was_worked_by_hand(self):
         # H1, H3, H4, H10 and H9 of the rules.
         for line in LINES:
             with self.subTest(line):
                 self.assertEqual(self.printed("example.c", line), EXAMPLE)
+
+    def test_the_example_of_the_header_runs(self):
+        comment = HEADER[:HEADER.index("*/")]
+        example = "\n".join(re.findall(r"(?m)^ \*     (.*)$|^ \*$", comment))
+        self.assertIn("color_clusters_run_and_paint_with", example)
+        for line in LINES:
+            with self.subTest(line):
+                for rows, error in [(1, ""), (2, f"{full('IMAGE')}\n")]:
+                    self.put("example.c", EXAMPLE_AROUND.format(rows, example).encode())
+                    self.clean(line, "example.c")
+                    self.link(line, "object.o", ARCHIVE)
+                    self.run_program(error=error)
 
     def test_what_buffers_held_and_other_threads_change_nothing(self):
         for line in LINES:
@@ -159,10 +190,19 @@ class Programs(Compiled):
                 self.assertNotEqual(one, other)
                 self.assertNotIn("00000000", (one, other))
 
+    def test_no_call_has_a_state_of_its_own(self):
+        # The archive has no section that is written, so no variable.
+        listed = subprocess.run(["objdump", "-h", ARCHIVE], capture_output=True, timeout=PATIENCE, text=True).stdout
+        sections = re.findall(r"(?m)^ *\d+ (.*\S) +([0-9a-f]{8})  [0-9a-f]{16} .*\n +(.*)$", listed)
+        self.assertTrue(any("color_clusters_run" in name for name, _, _ in sections), listed)
+        self.assertEqual([name for name, size, flags in sections if int(size, 16) and "READONLY" not in flags], [])
+
     def test_the_structs_pass_everything_on(self):
+        # Values that need all of their types.
         settings = {
-            "is_same_color_a": 1, "is_same_color_b": -2, "hierarchical": 3, "good_min_area": 4, "good_max_area": 5,
-            "hollow_neighbours": 6, "deepen_diff": -7, "key_r": 8, "key_g": 9, "key_b": 10, "key_a": 11, "action": 1,
+            "is_same_color_a": 2**31 - 1, "is_same_color_b": -2**31, "hierarchical": 2**32 - 1,
+            "good_min_area": 2**32 - 2, "good_max_area": 2**32 - 3, "hollow_neighbours": 2**32 - 4,
+            "deepen_diff": 1 - 2**31, "key_r": 255, "key_g": 254, "key_b": 253, "key_a": 252, "action": 1,
         }
         names = ["image", "picture", "destination", "labels", "links", "table", "outputs", "work"]
         whole = passed(settings, {name: f"{name} {length}" for length, name in enumerate(names, 1)})
@@ -178,18 +218,18 @@ class Programs(Compiled):
 def passed(settings, lent):
     """What passed.c prints of calls with these settings and this lent."""
     of_settings = [f"{name} {value}" for name, value in settings.items()]
-    buffers = ["image", "labels", "links", "table", "outputs", "work"]
-    of_buffers = ["w 13", "h 14", *(f"{name} {lent[name]}" for name in buffers)]
+    size = ["w 4294967290", "h 4294967291"]
+    buffers = [f"{name} {lent[name]}" for name in ["image", "labels", "links", "table", "outputs", "work"]]
     sheet = [f"{name} {lent[name]}" for name in ["links", "table", "outputs"]]
-    counts = ["n 15", "m 16"]
+    counts = ["n 4294967287", "m 4294967288"]
     return [
-        "run", *of_settings, *of_buffers, "answered 0 21 22",
-        "run_and_paint", *of_settings, *of_buffers, f"picture {lent['picture']}", "answered 0 23 24",
-        "paint", "w 13", "h 14", *sheet, f"picture {lent['picture']}", *counts, "25",
-        "store", "w 13", "h 14", f"labels {lent['labels']}", *sheet,
-        f"destination {lent['destination']}", *counts, "26",
-        # A run that was refused with 3 is not painted or stored.
-        "3", "3",
+        "run", *of_settings, *size, *buffers, "answered 0 4294967281 4294967282",
+        "run_and_paint", *of_settings, *size, *buffers, f"picture {lent['picture']}",
+        "answered 0 4294967283 4294967284",
+        "paint", *size, *sheet, f"picture {lent['picture']}", *counts, "4294967285",
+        "store", *size, f"labels {lent['labels']}", *sheet, f"destination {lent['destination']}", *counts, "4294967286",
+        # What was refused is not painted or stored.
+        "4294967289", "4294967289",
     ]
 
 
@@ -204,6 +244,8 @@ OTHERS = {
     "painted all the same": "IMAGE", "stored all the same": "IMAGE",
     "no labels": "BUFFER", "no links": "BUFFER", "no table": "BUFFER", "no outputs": "BUFFER", "no work": "BUFFER",
     "the size of a number as a length": "BUFFER",
+    "no block": "BUFFER", "a block one short": "BUFFER", "a block above the limit": "BUFFER",
+    "a block of the limit": None, "a block": None,
     "picture too long": "PICTURE", "no picture": "PICTURE", "picture left out": "PICTURE",
     "n too large": "BUFFER", "m too large": "BUFFER",
     "entry not below n": "ENTRY",
@@ -212,7 +254,10 @@ OTHERS = {
     "the same, whole": None,
     "row h": "ROW", "row of another picture": "PICTURE", "last row": None,
     "destination too long": "DESTINATION", "no destination": "DESTINATION",
-    "label of 65536": "NUMBER", "label of 65535": None,
+    "label of 65536": "NUMBER", "label of 65535": None, "labels for links too": None,
+    "shift 8, labels twice": "SHIFT", "no column, labels twice": "EMPTY", "65001 x 1, labels twice": "LIMIT",
+    "no image, labels twice": "IMAGE", "labels twice, picture too long": "BUFFER",
+    "no work, picture in image": "BUFFER",
 }
 
 # The names of all numbers from 1 on.
@@ -222,24 +267,56 @@ NAMES = [
 ]
 
 
+# What calls may be given. Of each call by structs, with which of them it is tried as the later of a pair, and which of
+# the earlier it is given.
+GIVEN = ["labels", "links", "table", "outputs", "work", "image", "picture", "destination"]
+CALLS = {
+    "run": (GIVEN[:6], GIVEN), "run and paint": (GIVEN[:7], GIVEN),
+    "paint": (["picture"], ["links", "table", "outputs"]),
+    "store": (["destination"], ["labels", "links", "table", "outputs"]),
+}
+
+
+def overlaps():
+    """What refusals.c prints of every pair: three times they overlap, and then they touch twice."""
+    for place, later in enumerate(GIVEN):
+        name = later.upper() if later in GIVEN[6:] else "BUFFER"
+        for earlier in GIVEN[:place]:
+            yield f"{earlier} and {later}"
+            for overlapping in (True, True, True, False, False):
+                for call, (tried, given) in CALLS.items():
+                    if later in tried:
+                        yield f" {call}: {full(name if overlapping and earlier in given else None)}"
+
+
 def full(name):
     """The name of a number as the header spells it."""
     return f"COLOR_CLUSTERS_REFUSED_{name}" if name else "COLOR_CLUSTERS_ACCEPTED"
 
 
 class Refused(Compiled):
-    def test_what_c_cannot_warn_of_is_refused_by_name(self):
-        lines = []
+    def refused(self, lines):
+        """Runs all bad uses, compiled by these lines."""
+        expected = []
         for what, name in RUNS.items():
-            lines += [f"{what}: {full(name)}", f"and with painting: {full(name)}"]
-        lines += [f"{what}: {full(name)}" for what, name in OTHERS.items()]
-        lines += [f"{number} {full(name)}" for number, name in enumerate([None, *NAMES])]
-        lines += ["14 no number of the library"]
-        for line in LINES:
+            expected += [f"{what}: {full(name)}", f"and with painting: {full(name)}"]
+        expected += [f"{what}: {full(name)}" for what, name in OTHERS.items()]
+        expected += overlaps()
+        expected += [f"{number} {full(name)}" for number, name in enumerate([None, *NAMES])]
+        expected += ["14 no number of the library"]
+        for line in lines:
             with self.subTest(line):
-                self.assertEqual(self.printed("refusals.c", line).splitlines(), lines)
+                self.assertEqual(self.printed("refusals.c", line).splitlines(), expected)
+
+    def test_what_c_cannot_warn_of_is_refused_by_name(self):
+        self.refused(LINES)
         # All but the one that no call answers.
         self.assertEqual({*RUNS.values(), *OTHERS.values()} - {None}, set(NAMES) - {"SUM"})
+
+    @unittest.skipUnless(shutil.which("clang++"), "clang is not installed")
+    def test_nothing_undefined_is_done_for_it(self):
+        # A program that does such a thing is ended.
+        self.refused([f"{line} -fsanitize=undefined -fsanitize-trap=undefined" for line in (CLANG, CLANGPP)])
 
 
 # One fault at a time in good.c: what is wrong, the right text and the wrong one, and what gcc, g++, clang and clang++
@@ -249,17 +326,12 @@ RUN = "(&settings, w, h, image, COLOR_CLUSTERS_IMAGE_LEN(PIXELS), &buffers)"
 PAINT = "&buffers, answer, picture, COLOR_CLUSTERS_PICTURE_LEN(PIXELS))"
 SHORT, OVER, UNSET = "-Wstringop-overflow=", "-Wstringop-overread", "uninitialized"
 BAD = [
-    ("an answer dropped", "answer = color_clusters_run_with", "color_clusters_run_with", *["-Wunused-result"] * 4),
-    ("a number dropped", "number = color_clusters_paint_with", "number = 0; color_clusters_paint_with",
-     *["-Wunused-result"] * 4),
     ("settings and buffers swapped", RUN, "(&buffers, w, h, image, COLOR_CLUSTERS_IMAGE_LEN(PIXELS), &settings)",
      "-Wincompatible-pointer-types", "cannot convert", "-Wincompatible-pointer-types", "no matching function"),
     ("settings by value", RUN, RUN.replace("&settings", "settings"),
      "incompatible type for argument 1", "cannot convert", "incompatible type", "no matching function"),
     ("n in place of the answer", PAINT, PAINT.replace("answer", "answer.n"),
      "incompatible type for argument 4", "could not convert", "incompatible type", "no matching function"),
-    ("no settings", RUN, RUN.replace("&settings", "NULL"), *["-Wnonnull"] * 4),
-    ("no buffers", RUN, RUN.replace("&buffers", "NULL"), *["-Wnonnull"] * 4),
     ("no image", RUN, RUN.replace("image", "NULL", 1), "-Wnonnull", "-Wnonnull", None, None),
     ("no picture", PAINT, PAINT.replace("picture", "NULL", 1), "-Wnonnull", "-Wnonnull", None, None),
     ("settings not set", SETTINGS, SETTINGS.replace(" = COLOR_CLUSTERS_DEFAULTS", ""), UNSET, UNSET, None, None),
@@ -277,12 +349,6 @@ BAD = [
     ("place and cluster swapped",
      "buffers.outputs[0], COLOR_CLUSTERS_PIXEL_COUNT", "COLOR_CLUSTERS_PIXEL_COUNT, buffers.outputs[0]",
      None, "invalid conversion", None, "no matching function"),
-    ("a room above the limit", "ROOM(PIXELS)", "ROOM(65001)", *["within_the_limit"] * 4),
-    ("a room of a size that is no constant", "buffers = COLOR_CLUSTERS_LEND(room)",
-     "buffers = COLOR_CLUSTERS_LEND(room); COLOR_CLUSTERS_ROOM(w) more",
-     "-Wpedantic", "is not an integral constant-expression", *["fields must have a constant size"] * 2),
-    ("a pointer for an array", "COLOR_CLUSTERS_LEN(outputs)", "COLOR_CLUSTERS_LEN(buffers.outputs)",
-     *["-Wsizeof-pointer-div"] * 4),
     ("labels of bytes", "uint32_t labels[", "uint8_t labels[",
      "-Wincompatible-pointer-types", "cannot convert", "-Wincompatible-pointer-types", "incompatible type"),
     ("links that are constant",
@@ -292,19 +358,28 @@ BAD = [
      UNSET, UNSET, None, "default initialization"),
     *((f"{name} shorter than told", f"{name}[COLOR_CLUSTERS_{name.upper()}_LEN(PIXELS)]",
        f"{name}[COLOR_CLUSTERS_{name.upper()}_LEN(PIXELS) - 1]", SHORT, SHORT, None, None)
-      for name in ("labels", "links", "table", "work", "picture")),
+      for name in ("labels", "links", "table", "work")),
     ("outputs shorter than told", "COLOR_CLUSTERS_LEN(outputs)", "COLOR_CLUSTERS_LEN(outputs) + 1",
      SHORT, SHORT, None, None),
-    ("a run's picture shorter than told", "painted[COLOR_CLUSTERS_PICTURE_LEN(PIXELS)]", "painted[4 * PIXELS - 1]",
-     SHORT, SHORT, None, None),
-    ("an image shorter than told", "image[COLOR_CLUSTERS_IMAGE_LEN(PIXELS)]", "image[4 * PIXELS - 1]",
-     OVER, OVER, None, None),
-    *((f"by hand, {name} shorter than told", text, f"{text} + 1", OVER, OVER, None, None)
-      for name, text in
-      [("links", "links, PIXELS"), ("table", "21 * (PIXELS + 1)"), ("outputs", "entries, 2 * PIXELS")]),
-    ("by hand, picture shorter than told", "flat, 4 * PIXELS, 1", "flat, 4 * PIXELS + 1, 1", SHORT, SHORT, None, None),
-    ("by hand, a row's picture shorter than told", "flat, 4 * PIXELS, 0", "flat, 4 * PIXELS + 1, 0",
-     OVER, OVER, None, None),
+    ("a length in bytes", "COLOR_CLUSTERS_LEN(outputs)", "sizeof outputs", SHORT, SHORT, None, None),
+    ("a block of bytes", "malloc(sizeof(uint32_t) * COLOR", "malloc(COLOR", SHORT, SHORT, None, None),
+]
+
+# Faults that do not compile at all, also with warnings off and the header among those of the system. The words of gcc,
+# g++, clang and clang++.
+WRONG = [
+    ("a room above the limit", "ROOM(PIXELS)", "ROOM(65001)", *["within_the_limit"] * 4),
+    ("a room of a size that is no constant", "buffers = COLOR_CLUSTERS_LEND(room)",
+     "buffers = COLOR_CLUSTERS_LEND(room); COLOR_CLUSTERS_ROOM(w) more",
+     "within_the_limit", "is not an integral constant-expression", *["fields must have a constant size"] * 2),
+    ("a pointer for an array", "COLOR_CLUSTERS_LEN(outputs)", "COLOR_CLUSTERS_LEN(buffers.outputs)",
+     "is negative", "no matching function", "is negative", "no matching function"),
+    ("a struct with pointers for a room", "buffers = COLOR_CLUSTERS_LEND(room)",
+     "buffers = COLOR_CLUSTERS_LEND(room), more = COLOR_CLUSTERS_LEND(buffers)",
+     "is negative", "no matching function", "is negative", "no matching function"),
+    ("a class for an array", "buffers.outputs_len = COLOR_CLUSTERS_LEN(outputs)",
+     "struct { uint32_t *begin, *end, &operator[](int); } vector; buffers.outputs_len = COLOR_CLUSTERS_LEN(vector)",
+     None, "no matching function", None, "no matching function"),
 ]
 
 
@@ -332,13 +407,116 @@ class Warned(Compiled):
     def test_clang_warns_too(self):
         self.faults([(CLANG, 2), (CLANGPP, 3)])
 
-    def test_image_and_picture_are_watched_without_optimisation_too(self):
-        for text, says in [("uint8_t image[", OVER), ("uint8_t picture[", SHORT), ("uint8_t painted[", SHORT)]:
-            self.assertEqual(self.GOOD.count(f" {text}COLOR"), 1)
-            self.put("bad.c", self.GOOD.replace(f" {text}COLOR", f" {text}-1 + COLOR").encode())
-            for line in (GCC, GPP):
-                with self.subTest(text, line=line):
-                    self.assertIn(says, self.compile(f"{line} -O0", "bad.c").stderr)
+    def wrong(self, lines):
+        """Tries every fault that does not compile by these lines."""
+        in_any_case = f"-w -isystem {INCLUDE}"
+        lines = [(f"{line.replace(' -pedantic', '')} {in_any_case}", place) for line, place in lines]
+        self.put("good.c", self.GOOD.encode())
+        for line, _ in lines:
+            self.clean(line, "good.c")
+        for what, right, wrong, *says in WRONG:
+            self.assertEqual(self.GOOD.count(right), 1, what)
+            self.put("bad.c", self.GOOD.replace(right, wrong).encode())
+            for line, place in lines:
+                if says[place]:
+                    with self.subTest(what, line=line):
+                        result = self.compile(line, "bad.c")
+                        self.assertEqual(result.returncode, 1)
+                        self.assertIn(says[place], result.stderr)
+
+    def test_what_is_wrong_in_any_case_does_not_compile(self):
+        self.wrong([(GCC, 0), (GPP, 1)])
+
+    @unittest.skipUnless(shutil.which("clang++"), "clang is not installed")
+    def test_clang_does_not_compile_it_either(self):
+        self.wrong([(CLANG, 2), (CLANGPP, 3)])
+
+
+# The functions of the header that answer, as what they answer, their name and their parameters.
+BARE = re.sub(r"\s+", " ", re.sub(r"/\*.*?\*/", " ", HEADER, flags=re.S))
+EXPORTED = re.findall(r"\b((?!return )\w+) (color_clusters_\w+)\( ?([^()]*)\);", BARE)
+BY_STRUCTS = re.findall(r"(\w+) (color_clusters_\w+_with)\( ?([^()]*)\) {", BARE)
+
+
+def names_of(parameters):
+    return re.findall(r"(\w+)(?:,|$)", parameters)
+
+
+def pointers_of(parameters, kinds):
+    """The names of the pointers to these kinds, each with what it points to."""
+    return {name: kind for kind, name in re.findall(rf"((?:const )?(?:{kinds})) \*(\w+)", parameters)}
+
+
+class Told(Compiled):
+    """What the compiler is told of each function and each argument: in files with a function on each line."""
+
+    def warned(self, line, rows):
+        """The rows of which the compiler warns, each with the names of the warnings."""
+        self.put("rows.c", "\n".join(['#include "color_clusters.h"', *rows, ""]).encode())
+        said = self.compile(line, "rows.c").stderr
+        found = re.findall(r"(?m)^rows\.c:(\d+):\d+: warning: .*\[(-W[\w+=-]+)\]$", said)
+        return {(rows[int(number) - 2], warning) for number, warning in found}
+
+    def answers_dropped(self, lines):
+        self.assertEqual((len(EXPORTED), len(BY_STRUCTS)), (5, 4))
+        kept, dropped = [], []
+        for kind, name, parameters in EXPORTED + BY_STRUCTS:
+            call = f"{name}({', '.join(names_of(parameters))})"
+            kept += [f"{kind} keep_{name}({parameters}) {{ return {call}; }}"]
+            dropped += [f"void drop_{name}({parameters}) {{ {call}; }}"]
+        for line in lines:
+            with self.subTest(line):
+                self.assertEqual(self.warned(line, kept + dropped), {(row, "-Wunused-result") for row in dropped})
+
+    def nulls(self, lines):
+        rows, none = [], []
+        for functions, kinds in [(EXPORTED, r"\w+"), (BY_STRUCTS, r"color_clusters_\w+")]:
+            for kind, name, parameters in functions:
+                for pointer in [None, *pointers_of(parameters, kinds)]:
+                    given = ["NULL" if argument == pointer else argument for argument in names_of(parameters)]
+                    rows += [f"{kind} {name}_{pointer}({parameters}) {{ return {name}({', '.join(given)}); }}"]
+                    none += rows[-1:] * bool(pointer)
+        self.assertEqual(len(none), 6 + 4 + 7 + 1 + 5 + 2 + 2 + 1 + 1)
+        for line in lines:
+            with self.subTest(line):
+                warned = self.warned(f"{line} -Wno-unused-parameter -O0", rows)
+                self.assertEqual(warned, {(row, "-Wnonnull") for row in none})
+
+    def test_no_answer_may_be_dropped(self):
+        self.answers_dropped([GCC, GPP])
+
+    @unittest.skipUnless(shutil.which("clang++"), "clang is not installed")
+    def test_no_answer_may_be_dropped_with_clang(self):
+        self.answers_dropped([CLANG, CLANGPP])
+
+    def test_null_is_warned_of(self):
+        self.nulls([GCC, GPP])
+
+    @unittest.skipUnless(shutil.which("clang++"), "clang is not installed")
+    def test_null_is_warned_of_with_clang(self):
+        self.nulls([CLANG, CLANGPP])
+
+    def test_an_array_shorter_than_told_is_warned_of(self):
+        rows, short = [], set()
+        for kind, name, parameters in EXPORTED + BY_STRUCTS:
+            arrays = pointers_of(parameters, "uint8_t|uint32_t")
+            lengths = {f"{array}_len": f"COLOR_CLUSTERS_{array.upper()}_LEN(4)" for array in arrays}
+            if "destination" in arrays:
+                lengths["destination_len"] = "COLOR_CLUSTERS_STORED_LEN(4, 1, 0)"
+            call = f"{name}({', '.join(lengths.get(argument, argument) for argument in names_of(parameters))})"
+            # The others are arguments of the row too.
+            others = [each for each in parameters.split(", ") if names_of(each)[0] not in {*arrays, *lengths}]
+            for shorter in [None, *arrays]:
+                own = [f"{of.split()[-1]} {array}[{lengths[f'{array}_len']}{' - 1' * (array == shorter)}] = {{0}};"
+                       for array, of in arrays.items()]
+                rows += [f"{kind} {name}_{shorter}({', '.join(others)}) {{ {' '.join(own)} return {call}; }}"]
+                if shorter:
+                    short.add((rows[-1], OVER if arrays[shorter].startswith("const") else SHORT))
+        self.assertEqual(len(short), 6 + 4 + 7 + 1 + 5 + 1 + 2 + 1 + 1)
+        for line in (GCC, GPP):
+            for optimised in ("-O0", "-O2"):
+                with self.subTest(f"{line} {optimised}"):
+                    self.assertEqual(self.warned(f"{line} {optimised}", rows), short)
 
 
 class Alone(Compiled):
@@ -356,6 +534,38 @@ class Alone(Compiled):
     @unittest.skipUnless(shutil.which("clang++"), "clang is not installed")
     def test_clang_takes_it_too(self):
         self.included_twice(CLANG_DIALECTS)
+
+    def macros_defined(self, lines):
+        words = ["access", "always_inline", "nonnull", "read_only", "warn_unused_result", "write_only"]
+        macros = "".join(f'#define {word} "of the program"\n' for word in words)
+        self.put("macros.c", f'{macros}#include "color_clusters.h"\nextern int some;\nint some = 0;\n'.encode())
+        for line in lines:
+            with self.subTest(line):
+                self.clean(line, "macros.c")
+
+    def test_a_program_may_have_macros_of_the_words_of_attributes(self):
+        self.macros_defined(DIALECTS)
+
+    @unittest.skipUnless(shutil.which("clang++"), "clang is not installed")
+    def test_so_may_it_with_clang(self):
+        self.macros_defined(CLANG_DIALECTS)
+
+    def test_cpp_may_include_it_as_c(self):
+        inside = 'extern "C" {\n#include "color_clusters.h"\n}\n'
+        self.put("inside.c", f"{inside}extern size_t some;\nsize_t some = COLOR_CLUSTERS_LEN(\"four\");\n".encode())
+        for line in DIALECTS:
+            if line.startswith("g++"):
+                with self.subTest(line):
+                    self.clean(line, "inside.c")
+
+    def test_a_compiler_may_know_no_attributes(self):
+        # It speaks GNU C, and is told before the header that it does not. It warns of that.
+        unknown = "#include <stdint.h>\n#include <stdlib.h>\n#undef __GNUC__\n#undef __has_attribute\n"
+        self.put("plain.c", f"{unknown}{(PROGRAMS / 'good.c').read_text()}".encode())
+        for line in (GCC, GPP):
+            with self.subTest(line):
+                result = self.compile(line, "plain.c")
+                self.assertEqual((result.returncode, "[-W" in result.stderr), (0, False), result.stderr)
 
     def test_two_units_that_use_it_link(self):
         for line in LINES:
@@ -391,14 +601,12 @@ class Declared(unittest.TestCase):
         source = (ROOT / "crates/color_clusters_c/src/lib.rt").read_text()
         exported = re.findall(r'pub extern "C" fn (\w+)\(([^)]*)\) -> (\w+)', source)
         self.assertEqual(len(exported), source.count("#[unsafe(no_mangle)]"))
-        bare = re.sub(r"\s+", " ", re.sub(r"/\*.*?\*/", " ", HEADER, flags=re.S))
-        declarations = re.findall(r"(\w+ color_clusters_\w+\([^()]*\));", bare)
+        declared = [f"{kind} {name}({parameters})" for kind, name, parameters in EXPORTED]
         expected = []
         for name, arguments, answer in exported:
             parts = [in_c(part) for part in re.findall(r"\w+: [^,]+", re.sub(r"\s+", " ", arguments).strip())]
             expected.append(f"{in_c(f'{name}: {answer}')}({', '.join(parts)})")
-        tidy = [declaration.replace("( ", "(") for declaration in declarations]
-        self.assertEqual(sorted(tidy), sorted(expected))
+        self.assertEqual(sorted(declared), sorted(expected))
 
     def test_the_answer_is_the_library_s(self):
         source = (ROOT / "crates/color_clusters/src/exports.rt").read_text()
@@ -419,6 +627,7 @@ links less 1: COLOR_CLUSTERS_REFUSED_BUFFER
 table less 1: COLOR_CLUSTERS_REFUSED_BUFFER
 outputs less 1: COLOR_CLUSTERS_REFUSED_BUFFER
 work less 1: COLOR_CLUSTERS_REFUSED_BUFFER
+block: COLOR_CLUSTERS_ACCEPTED
 exact: COLOR_CLUSTERS_ACCEPTED
 paint: COLOR_CLUSTERS_ACCEPTED
 last row: COLOR_CLUSTERS_ACCEPTED
@@ -429,10 +638,11 @@ store: COLOR_CLUSTERS_ACCEPTED
 
 
 class Constants(Compiled):
-    def values(self, line, expressions):
-        """The values of constant expressions, as the compiler has them."""
+    def values(self, line, expressions, before="", after=""):
+        """The values of expressions, as the compiler has them, with this before the header and these declarations."""
         rows = "".join(f'    printf("%lld\\n", (long long)({text}));\n' for text in expressions)
-        source = f'#include <stdio.h>\n#include "color_clusters.h"\nint main(void)\n{{\n{rows}    return 0;\n}}\n'
+        main = f"int main(void)\n{{\n{after}\n{rows}    return 0;\n}}\n"
+        source = f'#include <stdint.h>\n#include <stdio.h>\n{before}\n#include "color_clusters.h"\n{main}'
         self.put("values.c", source.encode())
         self.clean(line, "values.c")
         self.link(line, "object.o")
@@ -446,12 +656,51 @@ class Constants(Compiled):
                 with self.subTest(line, size=size):
                     self.assertEqual(self.run_program(*map(str, size)), LENGTHS)
 
+    NAMES = ["LABELS", "LINKS", "TABLE", "OUTPUTS", "WORK", "IMAGE", "PICTURE", "BLOCK"]
+
+    def lengths(self, pixels):
+        """Every length, that of a stored sheet with as many slots and outputs as pixels; and the pixels of a square."""
+        lengths = [f"COLOR_CLUSTERS_{name}_LEN({pixels})" for name in self.NAMES]
+        stored = f"COLOR_CLUSTERS_STORED_LEN({pixels}, {pixels}, {pixels})"
+        return [*lengths, stored, f"COLOR_CLUSTERS_PIXELS({pixels}, {pixels})"]
+
+    @staticmethod
+    def of_the_rules(p):
+        """The same by the rules."""
+        return [p, p, 21 * (p + 1), 2 * p, 8 * p + 8, 4 * p, 4 * p, 33 * p + 29, 2 * (4 + 5 * p), p * p]
+
     def test_the_lengths_are_those_of_the_rules(self):
-        names = ["LABELS", "LINKS", "TABLE", "OUTPUTS", "WORK", "IMAGE", "PICTURE"]
-        lengths = [f"COLOR_CLUSTERS_{name}_LEN(COLOR_CLUSTERS_PIXELS(1 + 1, 1 + 2))" for name in names]
+        # Of sums, in products.
+        texts = [text for length in self.lengths("2 + 4") for text in (length, f"1000000 / {length}", f"{length} * 2")]
+        expected = [value for length in self.of_the_rules(6) for value in (length, 1000000 // length, length * 2)]
         for line in (C, CPP):
-            found = self.values(line, [*lengths, "COLOR_CLUSTERS_STORED_LEN(3 + 3, 1 + 2, 1 + 1)"])
-            self.assertEqual(found, [6, 6, 147, 12, 56, 24, 24, 48])
+            self.assertEqual(self.values(line, texts), expected)
+
+    def test_lengths_of_variables_do_not_wrap(self):
+        # Nor do products with them.
+        for line in (C, CPP):
+            for large in (65536, 2**32 - 1):
+                texts = [*self.lengths("1 ? large : 0"), "color_clusters_at(large, COLOR_CLUSTERS_NEXT_HOLE)"]
+                found = self.values(line, [f"{text} * 3" for text in texts], after=f"const uint32_t large = {large}u;")
+                expected = [*self.of_the_rules(large), 21 * large + 20]
+                self.assertEqual([value % 2**64 for value in found], [3 * value % 2**64 for value in expected])
+
+    def test_a_room_has_exactly_the_lengths_and_is_lent_whole(self):
+        rooms = "typedef COLOR_CLUSTERS_ROOM(2 + 4) rooms; static rooms two[2]; rooms *const pointer = &two[1];"
+        lent = [f"const color_clusters_buffers {name} = COLOR_CLUSTERS_LEND({room});"
+                for name, room in [("one", "two[1]"), ("same", "*pointer"), ("first", "*two")]]
+        fields = [name.lower() for name in self.NAMES[:5]]
+        texts, expected = [], []
+        for field, length in zip(fields, self.of_the_rules(6)):
+            texts += [f"sizeof two[0].{field} / sizeof(uint32_t)", f"COLOR_CLUSTERS_LEN(two[0].{field})",
+                      f"1000000 / COLOR_CLUSTERS_LEN(two[0].{field})"]
+            expected += [length, length, 1000000 // length]
+            for name, place in [("one", 1), ("same", 1), ("first", 0)]:
+                texts += [f"{name}.{field} == two[{place}].{field}", f"{name}.{field}_len"]
+                expected += [1, length]
+        # The last is for a compiler that speaks neither C++ nor GNU C.
+        for line, before in [(C, ""), (CPP, ""), (C, "#undef __GNUC__")]:
+            self.assertEqual(self.values(line, texts, before, " ".join([rooms, *lent])), expected)
 
     def test_the_limit_is_the_library_s(self):
         [limit] = self.values(C, ["COLOR_CLUSTERS_LIMIT"])

@@ -2,16 +2,9 @@
  * pixels, the rows of the picture, and the stored sheet. */
 #include <inttypes.h>
 #include <stdio.h>
+#include <stdlib.h>
 
 #include "color_clusters.h"
-
-/* The largest chart here, in pixels. */
-enum { MOST = 2 * 2 };
-
-/* Nothing of this is ever cleared. */
-static COLOR_CLUSTERS_ROOM(MOST) room;
-static uint8_t picture[COLOR_CLUSTERS_PICTURE_LEN(MOST)];
-static uint8_t stored[COLOR_CLUSTERS_STORED_LEN(MOST, MOST + 1, 2 * MOST)];
 
 static uint32_t number_of(const color_clusters_buffers *sheet, uint32_t cluster, color_clusters_place place)
 {
@@ -85,45 +78,63 @@ static uint32_t print_rows(uint32_t w, uint32_t h, const uint8_t *painted, size_
     return COLOR_CLUSTERS_ACCEPTED;
 }
 
-/* Clusters, paints and stores a chart: 0, or the number of the refusal. */
-static uint32_t show(
-    const color_clusters_settings *settings, uint32_t w, uint32_t h, const uint8_t *chart, size_t chart_len)
+/* The stored sheet, as its numbers. */
+static uint32_t print_stored(uint32_t w, uint32_t h, const color_clusters_buffers *sheet, color_clusters_answer answer)
 {
-    const color_clusters_buffers sheet = COLOR_CLUSTERS_LEND(room);
-    const size_t pixels = COLOR_CLUSTERS_PIXELS(w, h);
-    const size_t picture_len = COLOR_CLUSTERS_PICTURE_LEN(pixels);
-    size_t stored_len, i;
-    uint32_t number, entry;
-    const color_clusters_answer answer = color_clusters_run_with(settings, w, h, chart, chart_len, &sheet);
-
-    number = color_clusters_paint_with(w, h, &sheet, answer, picture, picture_len);
-    if (number != COLOR_CLUSTERS_ACCEPTED) {
-        return number;
+    const size_t stored_len = COLOR_CLUSTERS_STORED_LEN(COLOR_CLUSTERS_PIXELS(w, h), answer.n, answer.m);
+    uint8_t *const stored = (uint8_t *)malloc(stored_len);
+    const uint32_t number = color_clusters_store_with(w, h, sheet, answer, stored, stored_len);
+    if (number == COLOR_CLUSTERS_ACCEPTED) {
+        size_t i;
+        printf("stored");
+        for (i = 0; i < stored_len; i += 2) {
+            printf(" %d", stored[i] + 256 * stored[i + 1]);
+        }
+        printf("\n");
     }
+    free(stored);
+    return number;
+}
+
+/* What a run left: labels, and the clusters that are painted. */
+static void print_sheet(size_t pixels, const color_clusters_buffers *sheet, color_clusters_answer answer)
+{
+    size_t i;
+    uint32_t entry;
     printf("n %" PRIu32 ", m %" PRIu32 "\n", answer.n, answer.m);
     printf("labels");
     for (i = 0; i < pixels; i++) {
-        printf(" %" PRIu32, sheet.labels[i]);
+        printf(" %" PRIu32, sheet->labels[i]);
     }
     printf("\n");
     for (entry = 0; entry < answer.m; entry++) {
-        print_cluster(&sheet, sheet.outputs[entry]);
+        print_cluster(sheet, sheet->outputs[entry]);
     }
-    number = print_rows(w, h, picture, picture_len);
-    if (number != COLOR_CLUSTERS_ACCEPTED) {
-        return number;
+}
+
+/* Clusters, paints and stores a chart: 0, or the number of the refusal. The memory is never cleared; where there is
+ * none, the call that it was for is refused. */
+static uint32_t show(
+    const color_clusters_settings *settings, uint32_t w, uint32_t h, const uint8_t *chart, size_t chart_len)
+{
+    const size_t pixels = COLOR_CLUSTERS_PIXELS(w, h);
+    const size_t block_len = COLOR_CLUSTERS_BLOCK_LEN(pixels), picture_len = COLOR_CLUSTERS_PICTURE_LEN(pixels);
+    uint32_t *const block = (uint32_t *)malloc(sizeof(uint32_t) * block_len);
+    uint8_t *const picture = (uint8_t *)malloc(picture_len);
+    const color_clusters_buffers sheet = color_clusters_buffers_in(block, block_len, pixels);
+    const color_clusters_answer answer = color_clusters_run_with(settings, w, h, chart, chart_len, &sheet);
+    uint32_t number = color_clusters_paint_with(w, h, &sheet, answer, picture, picture_len);
+
+    if (number == COLOR_CLUSTERS_ACCEPTED) {
+        print_sheet(pixels, &sheet, answer);
+        number = print_rows(w, h, picture, picture_len);
     }
-    stored_len = COLOR_CLUSTERS_STORED_LEN(pixels, answer.n, answer.m);
-    number = color_clusters_store_with(w, h, &sheet, answer, stored, stored_len);
-    if (number != COLOR_CLUSTERS_ACCEPTED) {
-        return number;
+    if (number == COLOR_CLUSTERS_ACCEPTED) {
+        number = print_stored(w, h, &sheet, answer);
     }
-    printf("stored");
-    for (i = 0; i < stored_len; i += 2) {
-        printf(" %d", stored[i] + 256 * stored[i + 1]);
-    }
-    printf("\n");
-    return COLOR_CLUSTERS_ACCEPTED;
+    free(picture);
+    free(block);
+    return number;
 }
 
 /* Shows a chart under its name; 1 where it is refused. */

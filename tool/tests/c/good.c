@@ -1,4 +1,6 @@
 /* Uses without a fault, which compile without a warning. The tests put one fault at a time into this file. */
+#include <stdlib.h>
+
 #include "color_clusters.h"
 
 enum { W = 2, H = 2, PIXELS = W * H };
@@ -7,7 +9,10 @@ static COLOR_CLUSTERS_ROOM(PIXELS) room;
 
 uint32_t by_room(uint32_t w, uint32_t h);
 uint32_t by_arrays(const uint8_t *image);
-uint32_t by_hand(void);
+uint32_t by_block(const uint8_t *image);
+uint32_t by_pointers(
+    const color_clusters_settings *settings, uint32_t w, uint32_t h, const uint8_t *image, size_t image_len,
+    const color_clusters_buffers *buffers, uint8_t *picture, size_t picture_len);
 
 uint32_t by_room(uint32_t w, uint32_t h)
 {
@@ -56,14 +61,31 @@ uint32_t by_arrays(const uint8_t *image)
     return answer.number == COLOR_CLUSTERS_ACCEPTED ? painted[0] : answer.number;
 }
 
-uint32_t by_hand(void)
+uint32_t by_block(const uint8_t *image)
 {
-    const uint32_t links[PIXELS] = {0}, numbers[21 * PIXELS + 21] = {0}, entries[2 * PIXELS] = {0};
-    uint8_t flat[4 * PIXELS];
-    uint32_t number = color_clusters_paint(
-        W, H, links, PIXELS, numbers, 21 * (PIXELS + 1), entries, 2 * PIXELS, flat, 4 * PIXELS, 1, 0);
+    const color_clusters_settings settings = COLOR_CLUSTERS_DEFAULTS;
+    uint32_t *const block = (uint32_t *)malloc(sizeof(uint32_t) * COLOR_CLUSTERS_BLOCK_LEN(PIXELS));
+    const color_clusters_buffers buffers = color_clusters_buffers_in(block, COLOR_CLUSTERS_BLOCK_LEN(PIXELS), PIXELS);
+    const color_clusters_answer answer = color_clusters_run_with(
+        &settings, W, H, image, COLOR_CLUSTERS_IMAGE_LEN(PIXELS), &buffers);
+    free(block);
+    return answer.number;
+}
+
+/* Each function once more, so that none is inlined only because it is called once. */
+uint32_t by_pointers(
+    const color_clusters_settings *settings, uint32_t w, uint32_t h, const uint8_t *image, size_t image_len,
+    const color_clusters_buffers *buffers, uint8_t *picture, size_t picture_len)
+{
+    color_clusters_answer answer = color_clusters_run_with(settings, w, h, image, image_len, buffers);
+    uint32_t number = color_clusters_paint_with(w, h, buffers, answer, picture, picture_len);
     if (number == COLOR_CLUSTERS_ACCEPTED) {
-        number = color_clusters_row_check(W, H, flat, 4 * PIXELS, 0);
+        number = color_clusters_store_with(w, h, buffers, answer, picture, picture_len);
+    }
+    if (number == COLOR_CLUSTERS_ACCEPTED) {
+        answer = color_clusters_run_and_paint_with(
+            settings, w, h, image, image_len, buffers, picture, picture_len);
+        number = answer.number;
     }
     return number;
 }

@@ -45,6 +45,8 @@ int main(int count, char **words)
     const uint32_t h = count == 3 ? (uint32_t)strtoul(words[2], NULL, 10) : 0;
     const size_t pixels = COLOR_CLUSTERS_PIXELS(w, h);
     const size_t image_len = COLOR_CLUSTERS_IMAGE_LEN(pixels), picture_len = COLOR_CLUSTERS_PICTURE_LEN(pixels);
+    const size_t block_len = COLOR_CLUSTERS_BLOCK_LEN(pixels);
+    uint32_t *const whole = numbers(block_len);
     uint8_t *const image = (uint8_t *)block(image_len + 1), *const picture = (uint8_t *)block(picture_len + 1);
     color_clusters_buffers exact, sheet;
     color_clusters_answer answer;
@@ -81,6 +83,8 @@ int main(int count, char **words)
     sheet = exact;
     sheet.work_len -= 1;
     run("work less 1", w, h, image, image_len, &sheet, picture, picture_len);
+    sheet = color_clusters_buffers_in(whole, block_len, pixels);
+    run("block", w, h, image, image_len, &sheet, picture, picture_len);
     answer = run("exact", w, h, image, image_len, &exact, picture, picture_len);
 
     stored_len = COLOR_CLUSTERS_STORED_LEN(pixels, answer.n, answer.m);
@@ -91,6 +95,7 @@ int main(int count, char **words)
     print("destination plus 1", color_clusters_store_with(w, h, &exact, answer, stored, stored_len + 1));
     print("store", color_clusters_store_with(w, h, &exact, answer, stored, stored_len));
 
+    free(whole);
     free(image);
     free(picture);
     free(exact.labels);

@@ -1,4 +1,5 @@
 /* Stands in for the library: prints what the functions by structs pass on to the exported ones, name by name. */
+#include <inttypes.h>
 #include <stdio.h>
 
 #include "color_clusters.h"
@@ -18,7 +19,7 @@ static const char *name_of(const void *pointer)
 }
 
 #define NUMBER(argument) printf("%s %lld\n", #argument, (long long)(argument))
-#define BUFFER(argument) printf("%s %s %d\n", #argument, name_of(argument), (int)(argument##_len))
+#define BUFFER(argument) printf("%s %s %lld\n", #argument, name_of(argument), (long long)(argument##_len))
 
 static void settings_passed(
     int32_t is_same_color_a, int32_t is_same_color_b, uint32_t hierarchical, uint32_t good_min_area, uint32_t good_max_area,
@@ -58,7 +59,7 @@ color_clusters_answer color_clusters_run(
     uint32_t w, uint32_t h, const uint8_t *image, size_t image_len, uint32_t *labels, size_t labels_len, uint32_t *links,
     size_t links_len, uint32_t *table, size_t table_len, uint32_t *outputs, size_t outputs_len, uint32_t *work, size_t work_len)
 {
-    const color_clusters_answer answer = {0, 21, 22};
+    const color_clusters_answer answer = {0, 4294967281, 4294967282};
     printf("run\n");
     settings_passed(
         is_same_color_a, is_same_color_b, hierarchical, good_min_area, good_max_area, hollow_neighbours, deepen_diff,
@@ -75,7 +76,7 @@ color_clusters_answer color_clusters_run_and_paint(
     size_t links_len, uint32_t *table, size_t table_len, uint32_t *outputs, size_t outputs_len, uint32_t *work, size_t work_len,
     uint8_t *picture, size_t picture_len)
 {
-    const color_clusters_answer answer = {0, 23, 24};
+    const color_clusters_answer answer = {0, 4294967283, 4294967284};
     printf("run_and_paint\n");
     settings_passed(
         is_same_color_a, is_same_color_b, hierarchical, good_min_area, good_max_area, hollow_neighbours, deepen_diff,
@@ -99,7 +100,7 @@ uint32_t color_clusters_paint(
     BUFFER(picture);
     NUMBER(n);
     NUMBER(m);
-    return 25;
+    return 4294967285;
 }
 
 uint32_t color_clusters_store(
@@ -117,12 +118,17 @@ uint32_t color_clusters_store(
     BUFFER(destination);
     NUMBER(n);
     NUMBER(m);
-    return 26;
+    return 4294967286;
 }
 
 static void answered(color_clusters_answer answer)
 {
-    printf("answered %d %d %d\n", (int)answer.number, (int)answer.n, (int)answer.m);
+    printf("answered %" PRIu32 " %" PRIu32 " %" PRIu32 "\n", answer.number, answer.n, answer.m);
+}
+
+static void number(uint32_t answered)
+{
+    printf("%" PRIu32 "\n", answered);
 }
 
 /* All calls with this. */
@@ -130,34 +136,33 @@ static void calls(
     const color_clusters_settings *settings, const uint8_t *image, const color_clusters_buffers *buffers,
     uint8_t *picture, uint8_t *destination)
 {
-    const color_clusters_answer accepted = {0, 15, 16}, refused = {3, 0, 0};
-    answered(color_clusters_run_with(settings, 13, 14, image, sizeof own.image, buffers));
+    const color_clusters_answer accepted = {0, 4294967287, 4294967288}, refused = {4294967289, 0, 0};
+    const uint32_t w = 4294967290, h = 4294967291;
+    answered(color_clusters_run_with(settings, w, h, image, sizeof own.image, buffers));
     answered(color_clusters_run_and_paint_with(
-        settings, 13, 14, image, sizeof own.image, buffers, picture, sizeof own.picture));
-    printf("%d\n", (int)color_clusters_paint_with(13, 14, buffers, accepted, picture, sizeof own.picture));
-    printf("%d\n", (int)color_clusters_store_with(13, 14, buffers, accepted, destination, sizeof own.destination));
-    printf("%d\n", (int)color_clusters_paint_with(13, 14, buffers, refused, picture, sizeof own.picture));
-    printf("%d\n", (int)color_clusters_store_with(13, 14, buffers, refused, destination, sizeof own.destination));
+        settings, w, h, image, sizeof own.image, buffers, picture, sizeof own.picture));
+    number(color_clusters_paint_with(w, h, buffers, accepted, picture, sizeof own.picture));
+    number(color_clusters_store_with(w, h, buffers, accepted, destination, sizeof own.destination));
+    number(color_clusters_paint_with(w, h, buffers, refused, picture, sizeof own.picture));
+    number(color_clusters_store_with(w, h, buffers, refused, destination, sizeof own.destination));
 }
 
 int main(void)
 {
     const color_clusters_buffers buffers = COLOR_CLUSTERS_LEND(own);
     const color_clusters_settings defaults = COLOR_CLUSTERS_DEFAULTS;
+    const color_clusters_color key = {255, 254, 253, 252};
     color_clusters_settings settings = COLOR_CLUSTERS_DEFAULTS;
     color_clusters_buffers missing = COLOR_CLUSTERS_LEND(own);
 
-    settings.is_same_color_a = 1;
-    settings.is_same_color_b = -2;
-    settings.hierarchical = 3;
-    settings.good_min_area = 4;
-    settings.good_max_area = 5;
-    settings.hollow_neighbours = 6;
-    settings.deepen_diff = -7;
-    settings.key_color.r = 8;
-    settings.key_color.g = 9;
-    settings.key_color.b = 10;
-    settings.key_color.a = 11;
+    settings.is_same_color_a = 2147483647;
+    settings.is_same_color_b = -2147483647 - 1;
+    settings.hierarchical = 4294967295;
+    settings.good_min_area = 4294967294;
+    settings.good_max_area = 4294967293;
+    settings.hollow_neighbours = 4294967292;
+    settings.deepen_diff = -2147483647;
+    settings.key_color = key;
     settings.keying_action = COLOR_CLUSTERS_DISCARD;
     printf("by structs\n");
     calls(&settings, own.image, &buffers, own.picture, own.destination);

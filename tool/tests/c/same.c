@@ -1,27 +1,31 @@
-/* The same results over buffers that held different bytes before, and in two threads at the same time. Prints the
- * results as one number each: all that a run and painting leave. */
+/* The same results over buffers that held different bytes before, and in two threads at the same time, of images of
+ * different sizes with different settings. Prints the results as one number each: all that a run and painting leave. */
 #include <pthread.h>
 #include <stdio.h>
 #include <string.h>
 
 #include "color_clusters.h"
 
-enum { W = 40, H = 30, PIXELS = W * H, REPEATED = 50 };
+enum { MOST = 40 * 30, REPEATED = 50 };
 
 /* A sheet of its own for each thread. */
 typedef struct {
-    COLOR_CLUSTERS_ROOM(PIXELS) room;
-    uint8_t image[COLOR_CLUSTERS_IMAGE_LEN(PIXELS)];
-    uint8_t picture[COLOR_CLUSTERS_PICTURE_LEN(PIXELS)];
+    color_clusters_settings settings;
+    uint32_t w, h;
+    COLOR_CLUSTERS_ROOM(MOST) room;
+    uint8_t image[COLOR_CLUSTERS_IMAGE_LEN(MOST)];
+    uint8_t picture[COLOR_CLUSTERS_PICTURE_LEN(MOST)];
     uint32_t result;
 } sheet;
 
 static sheet one, other;
 
 /* Noise in few colours, which differs with the seed. */
-static void draw(sheet *of, uint32_t seed)
+static void draw(sheet *of, uint32_t w, uint32_t h, uint32_t seed)
 {
     size_t i;
+    of->w = w;
+    of->h = h;
     for (i = 0; i < sizeof of->image; i++) {
         seed = seed * 1664525 + 1013904223;
         of->image[i] = (uint8_t)(seed >> 30 << 6);
@@ -41,25 +45,24 @@ static uint32_t mixed(uint32_t result, const void *bytes, size_t len)
 /* A run and painting over buffers full of this byte: what they leave, as one number, or 0 where it is refused. */
 static uint32_t result_over(sheet *of, int byte)
 {
-    color_clusters_settings settings = COLOR_CLUSTERS_DEFAULTS;
     const color_clusters_buffers buffers = COLOR_CLUSTERS_LEND(of->room);
+    const size_t pixels = COLOR_CLUSTERS_PIXELS(of->w, of->h), picture_len = COLOR_CLUSTERS_PICTURE_LEN(pixels);
     color_clusters_answer answer;
     uint32_t result;
 
     memset(&of->room, byte, sizeof of->room);
     memset(of->picture, byte, sizeof of->picture);
-    settings.good_min_area = 0;
     answer = color_clusters_run_and_paint_with(
-        &settings, W, H, of->image, sizeof of->image, &buffers, of->picture, sizeof of->picture);
+        &of->settings, of->w, of->h, of->image, COLOR_CLUSTERS_IMAGE_LEN(pixels), &buffers, of->picture, picture_len);
     if (answer.number != COLOR_CLUSTERS_ACCEPTED) {
         return 0;
     }
-    result = mixed(answer.n * 65536 + answer.m, buffers.labels, PIXELS * sizeof(uint32_t));
-    result = mixed(result, buffers.links, PIXELS * sizeof(uint32_t));
+    result = mixed(answer.n * 65536 + answer.m, buffers.labels, pixels * sizeof(uint32_t));
+    result = mixed(result, buffers.links, pixels * sizeof(uint32_t));
     result = mixed(result, buffers.table, color_clusters_at(answer.n, COLOR_CLUSTERS_FIRST_PIXEL) * sizeof(uint32_t));
     result = mixed(result, buffers.outputs, answer.m * sizeof(uint32_t));
     result = mixed(result, buffers.work, buffers.work_len * sizeof(uint32_t));
-    return mixed(result, of->picture, sizeof of->picture);
+    return mixed(result, of->picture, picture_len);
 }
 
 /* A thread: again and again, over different bytes; the result is 0 where two differ. */
@@ -78,11 +81,16 @@ static void *repeat(void *of)
 int main(void)
 {
     static const int bytes[] = {0, 1, 0x5a, 0xff};
+    const color_clusters_settings defaults = COLOR_CLUSTERS_DEFAULTS;
+    const color_clusters_settings different = {7, 0, 9, 0, 100, 3, 200, {64, 64, 64, 64}, COLOR_CLUSTERS_DISCARD};
     pthread_t thread;
     size_t i;
 
-    draw(&one, 1);
-    draw(&other, 2);
+    one.settings = defaults;
+    one.settings.good_min_area = 0;
+    draw(&one, 40, 30, 1);
+    other.settings = different;
+    draw(&other, 23, 31, 2);
     for (i = 0; i < COLOR_CLUSTERS_LEN(bytes); i++) {
         printf("over %d: %08x %08x\n", bytes[i], result_over(&one, bytes[i]), result_over(&other, bytes[i]));
     }
