@@ -28,12 +28,13 @@
  * their sizeof; that of an image, a picture or a destination counts its bytes. What a call writes need not be cleared
  * or initialised, since no result depends on what it held, and must overlap nothing else that the call is given; what
  * is only read may be shared, also within one call. An exported function takes no NULL, not even with a length of 0.
- * To the functions by structs a buffer, an image, a picture or a destination that is NULL counts as one of length 0,
- * and so does a buffer that overlaps another or the image, and a picture or a destination that overlaps anything of the
- * call: each is refused by its name. Settings and buffers themselves may not be NULL.
+ * To the functions by structs a buffer, an image, a picture or a destination that is NULL counts as one of length 0.
+ * So does, in a run, a buffer that overlaps another or the image, and in every call a picture or a destination that
+ * overlaps what the call reads or writes besides. Each is refused by its name. Settings and buffers themselves may not
+ * be NULL.
  *
  * Threads. No call has a state of its own or keeps a pointer: calls with different buffers may run at the same time, in
- * any threads. What is only read may be shared. */
+ * any threads, also where they share what is only read. */
 #ifndef COLOR_CLUSTERS_H
 #define COLOR_CLUSTERS_H
 
@@ -255,9 +256,10 @@ static inline size_t color_clusters_at(uint32_t cluster, color_clusters_place pl
         unsigned within_the_limit : (pixels) <= COLOR_CLUSTERS_LIMIT ? 1 : -1; \
     }
 
-/* The length of an array; with a pointer or a class in its place it does not compile. In three ways: C++ tells an array
- * by a template, GNU C by its type, which is not that of a pointer to its first element, and plain C cannot tell. The
- * template is one of C++ also where a program includes this file as C. */
+/* The length of an array. In C++ and GNU C it does not compile with a pointer or a class in its place, in C++ neither
+ * with an array of a size known only at run time. In three ways: C++ tells an array by a template, GNU C by its type,
+ * which is not that of a pointer to its first element, and plain C cannot tell. The template is one of C++ also where a
+ * program includes this file as C. */
 #ifdef __cplusplus
 extern "C++" {
 template <class Element, size_t len> char (&color_clusters_len_(const Element (&array)[len]))[len];
@@ -306,8 +308,7 @@ static inline color_clusters_buffers color_clusters_buffers_in(uint32_t *block, 
 
 typedef struct {
     uint32_t number; /* 0, or the number of the first check that failed */
-    uint32_t n;      /* cluster slots, empty ones too: of those PIXEL_COUNT is 0, and what stands from RESIDUE_R on is
-                      * left over */
+    uint32_t n;      /* cluster slots, empty ones too: of those PIXEL_COUNT is 0 */
     uint32_t m;      /* output entries */
 } color_clusters_answer;
 

@@ -33,7 +33,7 @@ pub struct Settings {
     )]
     pub is_same_color_b: i32,
 
-    /// Once all pixels are read, a cluster with more than this is not merged into another; the default lets patches lie inside patches
+    /// Once all pixels are read, a larger cluster is not merged into another; the default lets patches lie inside patches
     #[arg(long, value_name = "PIXELS", default_value_t = HIERARCHICAL_MAX)]
     pub hierarchical: u32,
 

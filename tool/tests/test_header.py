@@ -1,5 +1,5 @@
 """The header for C: programs that use it alone, in C and in C++; bad uses, of which the compiler warns or which come
-back as a refusal by its name; and its constants against the sources of the library.
+back as a refusal by its name; and its constants against the sources of the library. For 64 bits.
 
 COLOR_CLUSTERS_LIB names the folder of the library's archive."""
 

@@ -112,7 +112,7 @@ pub record Demand3 (o : RunnerConfig) (w height : ℕ) (image : List ℕ) : Type
   pub last : Newest (λ s. let r = run o w height image in
       (r.labels ≡ s.labels) × (r.clusters ≡ s.clusters) × (r.log ≡ s.log)) (moments o w height image)
   pub returned : Agrees o w height image (last_ledger o w height image) (run o w height image)
-  -- "With keying off, the picture of the finished run shows each pixel .." (rule 12.12)
+  -- "With keying off, the picture of the finished run (rule 3.5) shows each pixel .." (rule 12.12)
   pub pictured : (T (keying_on o) → ⊥) → (p : ℕ) → p < w * height
       → Shown (w * height) image (last_ledger o w height image) (state_view (run o w height image))
       (paint (w * height) (run o w height image)) p

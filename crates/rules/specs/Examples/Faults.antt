@@ -98,6 +98,14 @@ pub entry-late : map (entries 25) ((4 ∷ []) ∷ (1 ∷ []) ∷ (2 ∷ []) ∷ 
 unfolding paint_call
 entry-late = refl
 
+-- 2 and 3 with 8, 9, 10: no column, and a width above the limit
+abbrev sized : ℕ → ℕ → ℕ
+sized w k = (paint_call w 1 [] slots (k ∷ []) [] 4 1).answer
+
+pub entry-sizes : map (sized 0) (4 ∷ 1 ∷ 2 ∷ []) ++ map (sized above) (4 ∷ 1 ∷ 2 ∷ []) ≡ 2 ∷ 2 ∷ 2 ∷ 3 ∷ 3 ∷ 3 ∷ []
+unfolding paint_call
+entry-sizes = refl
+
 -- 10: a list in a ring of two pixels, as long as the image and longer; a link above w × h, to be
 -- followed and not; a first pixel above w × h
 abbrev listed_from : List ℕ → ℕ → ℕ → ℕ

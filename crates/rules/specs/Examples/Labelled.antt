@@ -116,8 +116,8 @@ labelled_cases =
     ∷ case 2 2 (pink ++ pink ++ pink ++ magenta) (keyed Discard) (stage1_labels (1 ∷ 2 ∷ 2 ∷ 0 ∷ []) ∷ [])
     -- step 4 into cluster 0
     ∷ case 2 2 (magenta ++ grey 200 ++ magenta ++ pink) (keyed Discard) (stage1_labels (0 ∷ 1 ∷ 0 ∷ 0 ∷ []) ∷ [])
-    -- rule 5.4: a kept key pixel is read by the label that it has by then. At pixel 6 cluster 0 goes into 2, with pixels 2
-    -- and 3, so that at pixel 7 up has label 2 and cluster 0 goes there once more
+    -- rule 5.4: a kept key pixel is read by the label that it has by then. At pixel 6 cluster 0 goes into 2, with pixels
+    -- 2 and 3, so that at pixel 7 up has label 2 and cluster 0 goes there once more
     ∷ case 4 2 (pink ++ pink ++ magenta ++ magenta ++ pink ++ pink ++ magenta ++ magenta) (keyed Keep)
     (stage1_labels (1 ∷ 2 ∷ 2 ∷ 2 ∷ 2 ∷ 2 ∷ 2 ∷ 0 ∷ []) ∷ outputs (0 ∷ 1 ∷ 2 ∷ []) ∷ [])
     -- a discarded pixel counts nowhere: cluster 0, which has no pixel, goes into left's, and its empty rectangle does
