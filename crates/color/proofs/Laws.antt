@@ -1,15 +1,18 @@
 -- Laws on numbers that the proofs cite. Assume nothing.
-use Prim.Native.Nat.{ℕ, ◌+◌, ◌*◌, ◌/◌, ◌^◌, ◌≤◌, ◌<◌}
-use native.Mathlib.Nat.{lt_of_lt_of_le, pow-le-pow_right, div-eq_of_lt}
+use Prim.Native.Nat.{min, max, ℕ, suc, ◌+◌, ◌-◌, ◌*◌, ◌/◌, ◌^◌, ◌≤◌, ◌<◌}
+use native.Mathlib.Nat.{lt_of_lt_of_le, pow-le-pow_right, div-eq_of_lt, mod-eq_of_lt}
 use native.Mathlib.Omega.{arith}
-use mathlib.Core.Path.{◌≡◌, refl, sym}
+use mathlib.Core.Path.{◌≡◌, ◌∙◌, refl, sym}
+use Rattle.std.proofs.lemmas.Nat.{and_mask}
+use borrow.Author.Differences.{up, down, Within, fits_in, ints}
 use Rattle.std.specs.Prelude.{Option, Some, None, MatchOption, unwrap_or}
 use Rattle.color.specs.declared.ColorSum as declared
 use Rattle.color.specs.Colors.{sum_of}
 use mathlib.Core.Bool.{Bool, true, false, ◌&&◌}
 use Rattle.std.specs.Prelude.{if◌then◌else◌}
+use lib.Bits.{bit_xor, bit_and, xor_zero_r, xor_add_and}
 use lib.IntN.{ℤ, pos, negsuc}
-use lib.Signed.{le_z}
+use lib.Signed.{le_z, shr_z}
 use mir.Syntax.{w8, w32}
 use mir.Val.{Fits, SFits, to_z, of_z}
 use mir.ValLaws.{to_z_pos, to_z-of_z}
@@ -29,6 +32,28 @@ at-most {d} {z} h f = rw (to_z_pos w32 d h, to_z-of_z w32 z f) (by z)
     by : (z : ℤ) → le_z (pos d) z ≡ at_most d z
     by (pos n) = refl
     by (negsuc n) = refl
+
+-- the sign of a number in each of its bits: -1 below 0, else 0
+pub sign_is : (d : ℤ) → Within (2 ^ 31) d → (up (shr_z d (2 ^ 31)) ≡ 0) × (down (shr_z d (2 ^ 31)) ≡ min 1 (down d - up d))
+sign_is (pos n) h = (div-eq_of_lt (omega arith), omega arith)
+sign_is (negsuc n) h = let small : n < 2 ^ 31 = omega arith in rw (div-eq_of_lt small) (omega arith)
+
+-- all bits of -1 - n turned
+turned : (n : ℕ) → n < 2 ^ 31 → bit_xor (2 ^ 32 - suc n) (2 ^ 32 - 1) ≡ n
+turned n h =
+    let m = 2 ^ 32 - suc n in
+    let all : bit_and m (2 ^ 32 - 1) ≡ m = and_mask m 32 ∙ mod-eq_of_lt (omega arith) in
+    omega (arith, all, xor_add_and m (2 ^ 32 - 1))
+
+-- a number whose bits are turned where it is below 0
+pub turned_is : (d : ℤ) → Within (2 ^ 31) d
+    → let z = to_z w32 (bit_xor (of_z w32 d) (of_z w32 (shr_z (to_z w32 (of_z w32 d)) (2 ^ 31)))) in (up z ≡ max (up d) (down d - 1)) × (down z ≡ 0)
+turned_is (pos n) h =
+    let small : n < 2 ^ 31 = omega arith in
+    rw (to_z_pos w32 n small, div-eq_of_lt small, xor_zero_r n, to_z_pos w32 n small) (omega arith)
+turned_is (negsuc n) h =
+    let small : n < 2 ^ 31 = omega arith in
+    rw (to_z-of_z w32 (negsuc n) (fits_in w32 (negsuc n) h), div-eq_of_lt small, turned n small, to_z_pos w32 n small) (omega arith)
 
 -- a shift above 7 leaves nothing of a byte
 pub gone : {c n : ℕ} → Fits w8 c → 7 < n → c / 2 ^ n ≡ 0
@@ -118,6 +143,8 @@ module _ (x y : Color) (xr : x.r < 256) (xg : x.g < 256) (xb : x.b < 256) (yr : 
 
 -- what the functions cite
 pub ruleset close_laws = (at-most, gone)
+
+pub ruleset abs_laws = (sign_is, turned_is, ints)
 
 pub ruleset same_laws = (at-most, like-equal, to_z-of_z)
 
