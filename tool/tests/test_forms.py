@@ -6,9 +6,9 @@ from pathlib import Path
 
 COLOR = (Path(__file__).resolve().parents[2] / "crates/color/src/lib.rt").read_text()
 
-# A branch, a comparison and a table each need a word or a sign that is not here.
+# What arithmetic is written with, and the branches and comparisons that are written with the same letters and signs.
 ARITHMETIC = re.compile(r"\s|\d+|\w+|>>|<<|[-+*/%^&|().,;=]")
-WORDS_OF_OTHER_FORMS = {"if", "else", "match", "while", "for", "loop", "return"}
+OTHER_FORMS = re.compile(r"==|&&|\|\||\b(if|else|match|while|for|loop|return)\b")
 CALL = re.compile(r"(\.\s*)?\b(\w+)\s*\(")
 
 
@@ -25,8 +25,7 @@ def needed(source, name, seen=()):
     if name in seen:
         return seen
     text = body(source, name)
-    left = ARITHMETIC.sub("", text)
-    if left or "==" in text or WORDS_OF_OTHER_FORMS & set(re.findall(r"\w+", text)):
+    if ARITHMETIC.sub("", text) or OTHER_FORMS.search(text):
         raise ValueError(f"{name} is not arithmetic alone: {text.strip()}")
     seen = (*seen, name)
     for method, called in CALL.findall(text):
@@ -42,7 +41,8 @@ class Distance(unittest.TestCase):
 
     def test_other_forms_are_told(self):
         other = ["x.abs_diff(y)", "if x < y { y - x } else { x - y }", "TABLE[x as usize]", "(x == y) as u8",
-                 "match x - y { d => d }", "u8::max(x, y) - u8::min(x, y)", "{ while x != y {} x }"]
+                 "(x as bool && y as bool) as u8", "match x - y { d => d }", "u8::max(x, y) - u8::min(x, y)",
+                 "max(x, y) - min(x, y)", "{ while x != y {} x }"]
         old = body(COLOR, "distance")
         for form in other:
             with self.assertRaises((ValueError, LookupError), msg=form):
