@@ -3,7 +3,8 @@ ghost use Rattle.std.specs.Prelude.{◌≤◌};
 ghost use Rattle.replay.specs.declared.cases.TheConstants.{LARGEST};
 
 use crate::buffers::{Lists, are_filled, filled};
-use crate::reading::{Numbers, Reader};
+use crate::numbers::is_answer;
+use crate::reading::{Numbers, Reader, Window};
 use crate::sheets::{SLOT, is_picture, is_sheet};
 use crate::tally::Tally;
 use crate::trials::{Call, Trial};
@@ -11,6 +12,7 @@ use image::{Counts, Size};
 use runner::RunnerConfig;
 use std::alloc::{AllocError, Global};
 use std::fmt;
+use std::io::{self, Read};
 
 // The largest image that is replayed, in pixels.
 const LARGEST: u64 = 2400;
@@ -53,6 +55,10 @@ impl<'a> Case<'a> {
             n: reader.number()?,
             m: reader.number()?,
         };
+        // More than the buffers have room for.
+        if (area + 1 < counts.n as usize) | (2 * area + MARGIN < counts.m as usize) {
+            return None;
+        }
         Some(Case {
             config,
             size,
@@ -105,7 +111,7 @@ impl<'a> Case<'a> {
         let mut picture = filled(alloc, self.picture.len())?;
         let clusters = buffers.clusters(self.size, self.counts);
         let answer = container::to_color_image(clusters, &mut picture);
-        Ok(answer.is_ok() & self.is_shown(&picture))
+        Ok(is_answer(answer, Ok(())) & self.is_shown(&picture))
     }
 
     // Whether storing from the buffers of a run gives their numbers.
@@ -117,7 +123,7 @@ impl<'a> Case<'a> {
         let mut sheet = filled(alloc, 2 * numbers)?;
         let clusters = buffers.clusters(self.size, self.counts);
         let answer = sheet::store(clusters, &buffers.labels, &mut sheet);
-        Ok(answer.is_ok() & is_sheet(&sheet, clusters, &buffers.labels))
+        Ok(is_answer(answer, Ok(())) & is_sheet(&sheet, clusters, &buffers.labels))
     }
 
     // Whether a call of the case leaves what is recorded, and whether that can be painted and stored.
@@ -128,7 +134,7 @@ impl<'a> Case<'a> {
             Call::RunAndPaint => self.is_shown(&left.picture),
         };
         Ok(
-            (left.answer == Ok(self.counts))
+            (left.numbers() == [0, self.counts.n, self.counts.m])
                 & left.work.iter().all(|value| *value == 0)
                 & self.is_run(&left.buffers)
                 & is_shown
@@ -165,12 +171,14 @@ impl fmt::Display for Replayed {
 }
 
 // Replays all cases, each by `run` and by `run_and_paint`. After one that is not whole, or too large, none is run, and
-// no bytes count as left over.
-pub(crate) fn replay(alloc: Global, input: &[u8]) -> Result<Replayed, AllocError> {
-    let mut reader = Reader::new(input);
-    let cases = reader.number().unwrap_or(0);
+// no bytes count as left over; of those that are left over no more count than the window holds.
+pub(crate) fn replay<R: Read>(alloc: Global, input: &mut R) -> io::Result<Replayed> {
+    let mut window = Window::new(alloc, input)?;
+    let cases = window.first_number()?;
     let mut tally = Tally::default();
     for done in 0..cases {
+        window.refill(input)?;
+        let mut reader = Reader::new(window.rest());
         let Some(case) = Case::read(&mut reader) else {
             return Ok(Replayed {
                 cases,
@@ -182,11 +190,14 @@ pub(crate) fn replay(alloc: Global, input: &[u8]) -> Result<Replayed, AllocError
         tally.count(
             case.is_replayed(alloc, Call::Run)? & case.is_replayed(alloc, Call::RunAndPaint)?,
         );
+        let left = reader.left_over();
+        window.keep(left);
     }
+    window.refill(input)?;
     Ok(Replayed {
         cases,
         skipped: 0,
         differ: tally.wrong,
-        left: reader.left_over(),
+        left: window.rest().len(),
     })
 }

@@ -1,6 +1,7 @@
 // Painting, rows and storing at the edges of their refusals, from buffers that no run made: the answer, and that a
 // refused call changes nothing.
 use crate::buffers::{Lists, are_filled, filled};
+use crate::numbers::is_answer;
 use crate::sheets::is_sheet;
 use crate::tally::Tally;
 use image::{Counts, Size};
@@ -309,8 +310,8 @@ impl SheetEdge {
             &mut picture,
         );
         Ok(match self.expected {
-            Ok(painted) => answer.is_ok() & shows(&picture, painted),
-            Err(refusal) => (answer == Err(refusal)) & are_filled(&picture, 0),
+            Ok(painted) => is_answer(answer, Ok(())) & shows(&picture, painted),
+            Err(refusal) => is_answer(answer, Err(refusal)) & are_filled(&picture, 0),
         })
     }
 
@@ -321,8 +322,8 @@ impl SheetEdge {
         let clusters = buffers.clusters(self.size, self.counts);
         let answer = sheet::store(clusters, &buffers.labels, &mut sheet);
         Ok(match self.expected {
-            Ok(_) => answer.is_ok() & is_sheet(&sheet, clusters, &buffers.labels),
-            Err(refusal) => (answer == Err(refusal)) & are_filled(&sheet, 0),
+            Ok(_) => is_answer(answer, Ok(())) & is_sheet(&sheet, clusters, &buffers.labels),
+            Err(refusal) => is_answer(answer, Err(refusal)) & are_filled(&sheet, 0),
         })
     }
 }
@@ -376,10 +377,10 @@ impl RowEdge {
         let row = sheet::row(self.size, &picture, self.y);
         let answer = sheet::row_check(self.size, &picture, self.y);
         Ok(match self.expected {
-            Ok(from) => answer.is_ok()
+            Ok(from) => is_answer(answer, Ok(()))
                 & (row.len() == 4 * self.size.w as usize)
                 & are_filled(row, from),
-            Err(refusal) => (answer == Err(refusal)) & row.is_empty(),
+            Err(refusal) => is_answer(answer, Err(refusal)) & row.is_empty(),
         })
     }
 }

@@ -5,19 +5,18 @@
 mod buffers;
 mod cases;
 mod edges;
+mod numbers;
 mod reading;
 mod refusals;
 mod sheets;
 mod tally;
 mod trials;
 
-use std::io::{self, Read};
+use std::io;
 
 // A read, a write or an allocation that fails ends the program with its error.
 fn main(rt: HostRuntime) -> io::Result<()> {
-    let mut input = Vec::new(rt.alloc());
-    rt.reader().read_to_end(&mut input)?;
-    let replayed = cases::replay(rt.alloc(), &input)?;
+    let replayed = cases::replay(rt.alloc(), &mut rt.reader())?;
     println!(rt; "{replayed}")?;
     let runs = refusals::all(rt.alloc())?;
     println!(rt;

@@ -1,10 +1,81 @@
-// Reading what is recorded.
+// Reading what is recorded: a window that moves over the input, and a reader of what it holds.
 ghost use Rattle.std.specs.Prelude.{◌≡◌, length, IfSome};
 ghost use Rattle.std.specs.Iterator.{at_most};
 
 use color::Color;
 use image::Size;
 use runner::{KeyingAction, RunnerConfig};
+use std::alloc::{AllocError, Global};
+use std::io::{self, Read};
+
+// How many bytes a window holds.
+const WINDOW: usize = 81920;
+
+// No case has more bytes.
+const LONGEST: usize = 69632;
+
+// A part of the input, of which the bytes before `at` have been read. It takes the same memory for an input of any
+// length.
+#[derive(Drop)]
+pub(crate) struct Window {
+    bytes: Vec<u8>,
+    at: usize,
+}
+
+impl Window {
+    // A window over the beginning of the input.
+    pub fn new<R: Read>(alloc: Global, input: &mut R) -> io::Result<Self> {
+        let mut window = Window {
+            bytes: Vec::new(alloc),
+            at: 0,
+        };
+        window.refill(input)?;
+        Ok(window)
+    }
+
+    // Where fewer bytes are left than the longest case has, drops those that have been read, and fills the window up.
+    pub fn refill<R: Read>(&mut self, input: &mut R) -> io::Result<()> {
+        let Some(left) = self.bytes.len().checked_sub(self.at) else {
+            return Ok(());
+        };
+        if LONGEST <= left {
+            return Ok(());
+        }
+        self.bytes.copy_within(self.at.., 0);
+        self.bytes.truncate(left);
+        self.at = 0;
+        input
+            .take((WINDOW - left) as u64)
+            .read_to_end(&mut self.bytes)?;
+        Ok(())
+    }
+
+    // The number at the beginning of the input. One that the input breaks off in is read as if zeros followed, and
+    // nothing is left after it.
+    pub fn first_number(&mut self) -> Result<u32, AllocError> {
+        let held = self.bytes.len();
+        self.bytes.resize(WINDOW, 0)?;
+        let mut reader = Reader::new(&self.bytes);
+        let number = reader.number();
+        let at = match number {
+            Some(_) => WINDOW.saturating_sub(reader.left_over()),
+            None => WINDOW + 1,
+        };
+        self.bytes.truncate(held);
+        self.at = at;
+        Ok(number.unwrap_or(0))
+    }
+
+    // What is left to be read.
+    pub fn rest(&self) -> &[u8] {
+        self.bytes.get(self.at..).unwrap_or(&[])
+    }
+
+    // Leaves the last `left` bytes to be read.
+    pub fn keep(&mut self, left: usize) {
+        self.at = self.bytes.len().saturating_sub(left);
+    }
+}
 
 // What is left to be read. Where something is not whole, the answer is `None`.
 #[derive(Clone, Copy)]
@@ -30,15 +101,18 @@ impl<'a> Reader<'a> {
         self.rest.split_off(..n)
     }
 
-    // An unsigned LEB128 number: seven bits a byte, the lowest first, five bytes at most.
+    // An unsigned LEB128 number: seven bits a byte, the lowest first. No recorded one has more than five bytes; further
+    // ones go round to the lowest bits again.
     pub fn number(&mut self) -> Option<u32> {
         let mut value = 0;
-        for shift in [0, 7, 14, 21, 28] {
+        let mut shift: u32 = 0;
+        for _ in 0..self.rest.len() {
             let byte = *self.rest.split_off_first()?;
-            value |= u32::from(byte % 128) << shift;
+            value |= u32::from(byte % 128).wrapping_shl(shift);
             if byte < 128 {
                 return Some(value);
             }
+            shift = shift.wrapping_add(7);
         }
         None
     }
@@ -48,9 +122,9 @@ impl<'a> Reader<'a> {
         self.number().map(|number| number.cast_signed())
     }
 
-    // A channel of a colour.
+    // A channel of a colour; recorded ones are below 256.
     pub fn channel(&mut self) -> Option<u8> {
-        u8::try_from(self.number()?).ok()
+        self.number().map(|number| (number % 256) as u8)
     }
 
     // A colour.

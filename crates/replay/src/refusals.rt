@@ -1,5 +1,6 @@
 // The refusals of `run` and `run_and_paint` at their edges: the answer, and that a refused call changes nothing.
 use crate::buffers::{Lists, are_filled, filled};
+use crate::numbers::number;
 use crate::tally::Tally;
 use crate::trials::{Call, Trial};
 use color::Color;
@@ -178,9 +179,14 @@ impl RunEdge {
         };
         let left = trial.make(alloc)?;
         Ok(match self.answer(call, picture) {
-            Err(refusal) => (left.answer == Err(refusal)) & left.is_untouched(),
+            Err(refusal) => {
+                (left.answer == Err(refusal))
+                    & (left.numbers() == [number(refusal), 0, 0])
+                    & left.is_untouched()
+            }
             Ok(()) => {
-                left.answer.is_ok() & ((call == Call::RunAndPaint) | are_filled(&left.picture, 0))
+                (left.numbers()[0] == 0)
+                    & ((call == Call::RunAndPaint) | are_filled(&left.picture, 0))
             }
         })
     }

@@ -1,4 +1,5 @@
 // What painting, the rows and storing leave, compared with what is recorded and with the buffers of the run.
+use crate::numbers::is_answer;
 use image::{Clusters, Size};
 use refusal::Refusal;
 
@@ -7,7 +8,7 @@ pub(crate) const SLOT: usize = 21;
 
 // Whether row y of the picture is given, and has these bytes.
 fn is_row(picture: &[u8], size: Size, y: u32, row: &[u8]) -> bool {
-    sheet::row_check(size, picture, y).is_ok() & (sheet::row(size, picture, y) == row)
+    is_answer(sheet::row_check(size, picture, y), Ok(())) & (sheet::row(size, picture, y) == row)
 }
 
 // Whether every row of the picture is the recorded one, and the row after the last is refused.
@@ -19,7 +20,7 @@ fn are_rows(picture: &[u8], size: Size, recorded: &[u8]) -> bool {
     (0..size.h)
         .zip(recorded.chunks_exact(width))
         .all(|(y, row)| is_row(picture, size, y, row))
-        & (sheet::row_check(size, picture, size.h) == Err(Refusal::NoRow))
+        & is_answer(sheet::row_check(size, picture, size.h), Err(Refusal::NoRow))
         & sheet::row(size, picture, size.h).is_empty()
 }
 

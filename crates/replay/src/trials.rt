@@ -1,5 +1,6 @@
 // A call of `run` or of `run_and_paint` in buffers that hold the pattern.
 use crate::buffers::{Lists, are_filled, filled};
+use color_clusters::exports::Answer;
 use image::{Counts, Size};
 use refusal::Refusal;
 use runner::{Buffers, RunnerConfig};
@@ -66,6 +67,12 @@ impl Trial<'_> {
 }
 
 impl Outcome {
+    // What the call answers from C: the number of the refusal or 0, and the counts of slots and outputs.
+    pub fn numbers(&self) -> [u32; 3] {
+        let Answer { number, n, m } = Answer::from(self.answer);
+        [number, n, m]
+    }
+
     // Whether every buffer is as it was before the call.
     pub fn is_untouched(&self) -> bool {
         self.buffers.are_untouched() & are_filled(&self.work, 0) & are_filled(&self.picture, 0)
