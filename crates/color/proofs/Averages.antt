@@ -7,7 +7,7 @@ use borrow.Author.Tests.{eqb-false, leb-true, not-true}
 use mathlib.Core.Path.{◌≡◌, refl, sym, ◌∙◌}
 use mathlib.Core.Bool.{true, false}
 use mathlib.Core.Option.{some, none}
-use Rattle.std.specs.Prelude.{Option, Some, None, IsSome}
+use Rattle.std.specs.Prelude.{Option, Some, None}
 use Prim.Native.Nat.{ℕ}
 use native.Mathlib.Omega.{arith}
 use lib.Dec.{T}
@@ -20,15 +20,14 @@ unfolding average_or_none
 there s h = elim (has_average s) as (λ b. T b → (if b then some (average s) else none) ≡ some (average s)) [ true ↦ λ t. refl | false ↦ λ t. absurd t ] h
 
 -- what has an average is some colour, and that is the average
-pub average_is_some : (s : ColorSum) (o : Option Color) → option_of o ≡ average_or_none s → T (has_average s) → IsSome o
-average_is_some s None e h = let z : ◌≡◌ {A = ℕ} 0 1 = cc (there s h, e) in absurd (omega arith)
-average_is_some s (Some c) e h = refl
+pub never-none : (s : ColorSum) (o : Option Color) → T (has_average s) → o ≡ None → option_of o ≡ average_or_none s → ⊥
+never-none s o h n e = let z : ◌≡◌ {A = ℕ} 0 1 = cc (there s h, n, e) in omega arith
 
 pub average_is : (s : ColorSum) (c : Color) → T (has_average s) → option_of (Some c) ≡ average_or_none s → color_of c ≡ average s
 average_is s c h e = cc (there s h, e)
 
 -- what has an average has it
-pub ruleset has_one = (average_is_some, average_is)
+pub ruleset has_one = (never-none, average_is)
 
 -- what a sum that has an average has passed
 pub passed : (s : ColorSum) {t : Bool} → t ≡ has_average s → t ≡ true → (0 < s.count) × (s.r ≤ 255 * s.count) × (s.g ≤ 255 * s.count) × (s.b ≤ 255 * s.count) × (s.a ≤ 255 * s.count)

@@ -2,12 +2,9 @@
 use Prim.Native.Nat.{min, max, ℕ, suc, ◌+◌, ◌-◌, ◌*◌, ◌/◌, ◌^◌, ◌≤◌, ◌<◌}
 use native.Mathlib.Nat.{lt_of_lt_of_le, pow-le-pow_right, div-eq_of_lt, mod-eq_of_lt}
 use native.Mathlib.Omega.{arith}
-use mathlib.Core.Path.{◌≡◌, ◌∙◌, refl, sym}
+use mathlib.Core.Path.{◌≡◌, ◌∙◌, refl}
 use Rattle.std.proofs.lemmas.Nat.{and_mask}
 use borrow.Author.Differences.{up, down, Within, fits_in, ints}
-use Rattle.std.specs.Prelude.{Option, Some, None, MatchOption, unwrap_or}
-use Rattle.color.specs.declared.ColorSum as declared
-use Rattle.color.specs.Colors.{sum_of}
 use mathlib.Core.Bool.{Bool, true, false, ◌&&◌}
 use Rattle.std.specs.Prelude.{if◌then◌else◌}
 use lib.Bits.{bit_xor, bit_and, xor_zero_r, xor_add_and}
@@ -117,13 +114,6 @@ sum-taken x y e = rw (e) refl
 pub sum-kept : (x y : ColorSum) → sum_answer x y ≡ 7 → sum_call x y ≡ x
 unfolding sum_call
 sum-kept x y e = rw (e) refl
-
--- the sum, or x where there is none
-pub sum-or : (o : Option declared.ColorSum) (x y : declared.ColorSum)
-    → MatchOption o (sum_answer (sum_of x) (sum_of y) ≡ 7) (λ s. (sum_answer (sum_of x) (sum_of y) ≡ 0) × (sum_of s ≡ sum_call (sum_of x) (sum_of y)))
-    → sum_of (unwrap_or o x) ≡ sum_call (sum_of x) (sum_of y)
-sum-or None x y h = sym (sum-kept _ _ h)
-sum-or (Some s) x y h = h.1
 
 -- its five totals
 pub five-totals : (x y : ColorSum) {r g b a n : ℕ} → r ≡ x.r + y.r → g ≡ x.g + y.g → b ≡ x.b + y.b → a ≡ x.a + y.a → n ≡ x.count + y.count

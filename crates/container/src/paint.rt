@@ -24,14 +24,17 @@ impl Sheet<'_> {
         color::sum_in(self.slot(k), layout::RESIDUE_R)
     }
 
-    // Its average.
+    // Its average; it has one.
     #[tactic(auto, using(color::proofs::Averages::has_one))]
     pub(crate) fn average(self, k: u32) -> Color
         requires slot { k < self.n }
         requires average { T (has_average (rules.slot_residue self.table.now k)) }
         ensures { color_of result ≡ average (rules.slot_residue self.entry.table.now k) }
     {
-        self.residue(k).average().unwrap()
+        let Some(c) = self.residue(k).average() else {
+            unreachable!()
+        };
+        c
     }
 
     // Whether the pixels of a list can be listed: no link is 0 or above size.

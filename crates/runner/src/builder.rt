@@ -11,7 +11,6 @@ ghost use Rattle.runner.specs.Code.Ops.{CanDeepen, Deepened, CanHollow, hole_lin
 ghost use Rattle.runner.specs.Code.Lists.{of_lists, SameLists};
 
 use super::input::Pixel;
-use super::slot::Head;
 use super::{labelling, slot};
 use color::Color;
 use image::layout;
@@ -113,7 +112,6 @@ impl<'a> Builder<'a> {
     }
 
     // A merge of stage 1: f goes into t.
-    #[tactic(auto, unfolding(rules::specs::Layout::first_of))]
     pub(crate) fn combine_clusters(&mut self, f: u32, t: u32)
         requires { of_lists (CanAppend f t) self.old }
         ensures loans { SameLists self.old self.new }
@@ -121,7 +119,7 @@ impl<'a> Builder<'a> {
     {
         self.combine_clusters_clone(f, t);
         let table = &mut *self.table;
-        slot::save_head(table, f, Head::default());
+        slot::save_head(table, f, slot::load_head(table, f).cleared());
     }
 
     // A plain merge of stage 2: f's residue is added to t's too.

@@ -13,15 +13,15 @@ use super::slot;
 use color::Color;
 use image::layout;
 
-// The average of the sum of cluster k.
+// The average of the sum of cluster k; it has one.
 #[tactic(auto, using(color::proofs::Averages::has_one))]
 pub(crate) fn color(table: &[u32], k: u32) -> Color
     requires { Averaged table.now k }
     ensures { color_of result ≡ average (sum_at table.now k) }
 {
-    color::sum_in(slot::numbers(table, k), layout::SUM_R)
-        .average()
-        .unwrap()
+    let s = color::sum_in(slot::numbers(table, k), layout::SUM_R);
+    let Some(c) = s.average() else { unreachable!() };
+    c
 }
 
 // The neighbours found so far: how many, the nearest, and its difference.

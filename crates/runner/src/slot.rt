@@ -2,7 +2,7 @@
 // residue (5), merged_into, depth, num_holes, first hole child, next hole child.
 ghost use Rattle.std.specs.Prelude.{◌≡◌, List, ℕ, ◌++◌, ◌+◌, ◌*◌, ◌≤◌, ◌<◌, length, get_or, set};
 ghost use Rattle.rules.specs.Color.{sum_of_one};
-ghost use Rattle.rules.specs.State.{Cluster, pixel_rect, with_pixel, with_cluster};
+ghost use Rattle.rules.specs.State.{Cluster, new_cluster, pixel_rect, with_pixel, with_cluster};
 ghost use Rattle.rules.specs.Layout.{first_of, slot_width, InTable};
 ghost use Rattle.rules.specs.Code.Bounds.{count_bound, sum_bound};
 ghost use Rattle.color.specs.Colors.{color_of, sum_of};
@@ -78,7 +78,13 @@ pub(crate) fn load_head(table: &[u32], k: u32) -> Head
             right: slot[layout::RIGHT],
             bottom: slot[layout::BOTTOM],
         },
-        sum: color::sum_in(slot, layout::SUM_R),
+        sum: ColorSum {
+            r: slot[layout::SUM_R],
+            g: slot[layout::SUM_G],
+            b: slot[layout::SUM_B],
+            a: slot[layout::SUM_A],
+            counter: slot[layout::SUM_COUNT],
+        },
     }
 }
 
@@ -132,6 +138,19 @@ fn first_of(count: u32, first: u32, second: u32) -> u32
 }
 
 impl Head {
+    // With every number 0, as that of a new cluster.
+    #[tactic(auto, unfolding(rules::specs::Layout::first_of), using(crate::proofs::Slots::head_is))]
+    pub(crate) fn cleared(self) -> Head
+        ensures { result ≡ head_of new_cluster }
+    {
+        let mut sum = self.sum;
+        sum.clear();
+        Head {
+            sum,
+            ..Head::default()
+        }
+    }
+
     // With a pixel of colour c after the list.
     pub(crate) fn with_pixel(self, at: Pixel, c: Color) -> Head
         requires { (at.i < count_bound) × (at.x < count_bound) × (at.y < count_bound) × (self.count < count_bound)
@@ -139,12 +158,14 @@ impl Head {
         ensures { (k : Cluster) → self ≡ head_of k
             → result ≡ head_of (with_pixel at.i (color_of c) (pixel_rect at.x at.y) k) }
     {
-        Head {
+        let mut head = Head {
             first: first_of(self.count, self.first, at.i + 1),
             count: self.count + 1,
             rect: self.rect.add_x_y(at.x, at.y),
-            sum: self.sum.plus(ColorSum::from(c)),
-        }
+            ..self
+        };
+        let _ = head.sum.add(c);
+        head
     }
 
     // With the list of another cluster after the list.

@@ -37,7 +37,7 @@ fn sum_colors(bytes: &[u8]) -> ColorSum
 {
     let mut s = ColorSum::default();
     for &[r, g, b, a] in bytes.as_chunks::<4>().0 {
-        s = s.plus(ColorSum::from(Color { r, g, b, a }));
+        let _ = s.add(Color { r, g, b, a });
     }
     s
 }

@@ -99,7 +99,9 @@ impl<'a> Seen<'a> {
         ensures { result.here ≡ here.entry }
     {
         let Here { input, at } = here;
-        let own = color::pixel_at(input.image, input.w, input.h, at.x, at.y).unwrap();
+        let Some(own) = color::pixel_at(input.image, input.w, input.h, at.x, at.y) else {
+            unreachable!()
+        };
         Seen {
             here,
             own,

@@ -6,7 +6,6 @@ use lib.ListN.{length-append}
 use Rattle.rules.specs.Color.{sum_of_one, ◌⊕◌}
 use Rattle.rules.specs.State.{pixel_rect, merge_rect, with_pixel}
 use Rattle.rules.specs.Layout.{first_of}
-use Rattle.rules.specs.Calls.{sum_call}
 use Rattle.color.specs.Colors.{color_of, sum_of}
 use Rattle.runner.specs.declared.slot.Head.{Head}
 use Rattle.runner.specs.Types.{rect_of}
@@ -22,5 +21,4 @@ returns c = λ k e.
     (c.first_of.ensures k.pixels (a.at.i ∷ []) (ap (λ (h : Head). h.count) e) (ap (λ (h : Head). h.first) e) (add-one a.at.i))
     (ap (λ (h : Head). h.count + 1) e ∙ sym (length-append k.pixels (a.at.i ∷ [])))
     (c.add_x_y.ensures ∙ ap (λ (h : Head). merge_rect (rect_of h.rect) at) e)
-    (c.plus.ensures ∙ ap (sum_call (sum_of a.self.sum)) c.from.ensures ∙ adds-taken c.requires.4
-    ∙ ap (λ (h : Head). sum_of h.sum ⊕ sum_of_one (color_of a.c)) e)
+    (c.add.ensures.sum ∙ adds-taken c.requires.4 ∙ ap (λ (h : Head). sum_of h.sum ⊕ sum_of_one (color_of a.c)) e)
