@@ -61,7 +61,7 @@ pub fn run_and_paint(
         buffers.new.labels.now buffers.new.links.now buffers.new.table.now picture.new) }
 {
     let pixels = buffers.pixels(o, size, image)?;
-    if !layout::four_each(picture, pixels) {
+    if !layout::four_each(picture.len(), pixels) {
         return Err(Refusal::PictureLength);
     }
     Ok(run_then_paint(o, size, image, buffers, picture))

@@ -35,7 +35,7 @@ impl<'a> Sheet<'a> {
         ensures sheet { IfOk result (IsSheetOf clusters.entry (length picture.now)) }
     {
         let size = clusters.pixels()?;
-        if !layout::four_each(picture, size) {
+        if !layout::four_each(picture.len(), size) {
             return Err(Refusal::PictureLength);
         }
         Ok(Sheet {

@@ -1,6 +1,6 @@
 // The layout of the cluster table: how many numbers a slot has, and the place of each; and what the buffers of a sheet,
 // an image and a picture must hold.
-ghost use Rattle.std.specs.Prelude.{◌≡◌, ◌*◌, eqb, length};
+ghost use Rattle.std.specs.Prelude.{◌≡◌, ◌*◌, eqb};
 ghost use Rattle.rules.specs.Refusals.{short_sheet, bad_counts};
 
 use crate::Counts;
@@ -49,20 +49,20 @@ pub const FIRST_HOLE: usize = 19;
 
 pub const NEXT_HOLE: usize = 20;
 
-// Checks 4 and 6: whether the bytes are four for each of so many pixels.
-pub fn four_each(bytes: &[u8], pixels: u32) -> bool
-    ensures { result ≡ eqb (length bytes.now) (4 * pixels) }
+// Checks 4 and 6: whether so many bytes are four for each of so many pixels.
+pub fn four_each(bytes: usize, pixels: u32) -> bool
+    ensures { result ≡ eqb bytes (4 * pixels) }
 {
-    bytes.len() == 4 * pixels as usize
+    bytes == 4 * pixels as usize
 }
 
-// Check 5: whether a buffer is too short for size pixels.
-pub fn short(size: u32, links: &[u32], table: &[u32], outputs: &[u32]) -> bool
-    ensures { result ≡ short_sheet size (length links.now) (length table.now) (length outputs.now) }
+// Check 5: whether a buffer is too short for size pixels; links, table and outputs are lengths.
+pub fn short(size: u32, links: usize, table: usize, outputs: usize) -> bool
+    ensures { result ≡ short_sheet size links table outputs }
 {
-    (links.len() < size as usize)
-        | (table.len() < SLOT_WIDTH * (size as usize + 1))
-        | (outputs.len() < 2 * size as usize)
+    (links < size as usize)
+        | (table < SLOT_WIDTH * (size as usize + 1))
+        | (outputs < 2 * size as usize)
 }
 
 // Check 5 too: whether a caller's count is too large.

@@ -77,8 +77,12 @@ impl<'a> Clusters<'a> {
         ensures pixels { IfOk result (λ pixels. pixels ≡ self.entry.size.w * self.entry.size.h) }
     {
         let pixels = self.size.pixels()?;
-        if layout::short(pixels, self.links, self.table, self.outputs)
-            | layout::bad_counts(pixels, self.counts)
+        if layout::short(
+            pixels,
+            self.links.len(),
+            self.table.len(),
+            self.outputs.len(),
+        ) | layout::bad_counts(pixels, self.counts)
         {
             return Err(Refusal::BufferLength);
         }

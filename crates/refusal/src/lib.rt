@@ -1,8 +1,8 @@
 // Why a call is refused: the lines of rule 3.2. Every call answers `Ok`, or the first check that fails.
 #![tactic(auto)]
 
-ghost use Rattle.std.specs.Prelude.{◌≡◌};
-ghost use Rattle.refusal.specs.Refusal.{number_of, answer_of};
+ghost use Rattle.std.specs.Prelude.{◌≡◌, Some};
+ghost use Rattle.refusal.specs.Refusal.{number_of, answer_of, words_of};
 
 use std::error::Error;
 use std::fmt;
@@ -35,6 +35,9 @@ impl Refusal {
 }
 
 impl fmt::Display for Refusal {
+    ghost output = { λ refusal. Some (words_of refusal) };
+
+    // The words of the check.
     fn fmt<W: fmt::Write>(&self, f: &mut fmt::Formatter<W>) -> fmt::Result {
         f.write_str(match self {
             Refusal::Shift => "the shift is outside 0 to 7",

@@ -22,7 +22,7 @@ ghost use Rattle.std.specs.Prelude.{◌≡◌};
 ghost use Rattle.rules.specs.Calls.{run_call};
 ghost use Rattle.runner.specs.Types.{action_of, action_at, config_of, buffers_of, SameLoans, ran_of};
 
-pub use buffers::Buffers;
+pub use buffers::{Buffers, Lengths, run_answer};
 use color::Color;
 use image::{Counts, Size};
 use refusal::Refusal;

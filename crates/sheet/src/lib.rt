@@ -19,7 +19,7 @@ pub fn row_check(size: Size, picture: &[u8], y: u32) -> Result<(), Refusal>
     ensures { answer_of result ≡ row_answer size.w size.h (length picture.now) y }
 {
     let pixels = size.pixels()?;
-    if !layout::four_each(picture, pixels) {
+    if !layout::four_each(picture.len(), pixels) {
         return Err(Refusal::PictureLength);
     }
     if size.h <= y {
