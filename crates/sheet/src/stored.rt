@@ -4,7 +4,7 @@ ghost use Rattle.std.proofs.lemmas.List.Edits.{sets};
 ghost use Rattle.rules.specs.Refusals.{store_answer};
 ghost use Rattle.rules.specs.Stored.{stored_bytes, is_large, two_bytes};
 ghost use Rattle.refusal.specs.Refusal.{answer_of};
-ghost use Rattle.sheet.specs.Code.Stored.{numbers_of, slot_pairs, early_answer};
+ghost use Rattle.sheet.specs.Code.Stored.{numbers_of, pixel_pairs, slot_pairs, early_answer};
 ghost use Rattle.sheet.specs.Code.Pairs.{pairs};
 
 use image::{Clusters, layout};
@@ -13,8 +13,8 @@ use refusal::Refusal;
 // The largest number of two bytes.
 const LARGEST: u32 = 65535;
 
-// Whether one of the numbers takes more than two bytes. All are looked at: the compiler then compares several at
-// a time.
+// Whether one of the numbers takes more than two bytes. Here and in the next two functions all are looked at: the
+// compiler then compares several at a time.
 fn has_large(numbers: &[u32]) -> bool
     ensures { result ≡ is_large numbers.now }
 {
@@ -23,12 +23,25 @@ fn has_large(numbers: &[u32]) -> bool
         .fold(false, |large, number| large | (LARGEST < *number))
 }
 
+// Whether a label or a link of a pixel takes more than two bytes, in one pass over both.
+fn has_large_pixel(labels: &[u32], links: &[u32]) -> bool
+    requires { length links.now ≡ length labels.now }
+    ensures { result ≡ is_large (pixel_pairs labels.now links.now) }
+{
+    labels
+        .iter()
+        .zip(links)
+        .fold(false, |large, (label, link)| {
+            large | (LARGEST < *label) | (LARGEST < *link)
+        })
+}
+
 // Whether a first pixel or a count of a slot takes more than two bytes.
 fn has_large_slot(slots: &[[u32; layout::SLOT_WIDTH]]) -> bool
     ensures { result ≡ is_large (slot_pairs slots.now) }
 {
-    slots.iter().any(|slot| {
-        (LARGEST < slot[layout::FIRST_PIXEL]) | (LARGEST < slot[layout::PIXEL_COUNT])
+    slots.iter().fold(false, |large, slot| {
+        large | (LARGEST < slot[layout::FIRST_PIXEL]) | (LARGEST < slot[layout::PIXEL_COUNT])
     })
 }
 
@@ -149,8 +162,7 @@ impl<'a> Stored<'a> {
         ensures { result ≡ is_large (numbers self.entry) }
     {
         has_large(&self.sizes)
-            | has_large(self.labels)
-            | has_large(self.links)
+            | has_large_pixel(self.labels, self.links)
             | has_large_slot(self.slots)
             | has_large(self.outputs)
     }

@@ -11,6 +11,10 @@ abbrev pub numbers_of : Clusters → List ℕ → List ℕ
 numbers_of s labels =
     stored_numbers s.size.w s.size.h labels s.links.now s.table.now s.outputs.now s.counts.n s.counts.m
 
+-- label and link of each of these pixels
+abbrev pub pixel_pairs : List ℕ → List ℕ → List ℕ
+pixel_pairs labels links = pairs (λ p. get_or labels p 0) (λ p. get_or links p 0) (length labels)
+
 -- first pixel and count of each of these slots
 abbrev pub slot_pairs : List (List ℕ) → List ℕ
 slot_pairs slots = pairs (λ k. get_or (get_or slots k []) 0 0) (λ k. get_or (get_or slots k []) 1 0) (length slots)
@@ -18,8 +22,7 @@ slot_pairs slots = pairs (λ k. get_or (get_or slots k []) 0 0) (λ k. get_or (g
 -- the numbers of a sheet in its parts: each slice has just what is stored
 abbrev pub parts : List ℕ → List ℕ → List ℕ → List (List ℕ) → List ℕ → List ℕ
 parts sizes labels links slots outputs =
-    sizes ++ pairs (λ p. get_or labels p 0) (λ p. get_or links p 0) (length labels)
-    ++ slot_pairs slots ++ outputs
+    sizes ++ pixel_pairs labels links ++ slot_pairs slots ++ outputs
 
 -- labels is a length
 module _ (s : Clusters) (labels : ℕ) where
