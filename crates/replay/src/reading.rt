@@ -50,8 +50,8 @@ impl Window {
         Ok(())
     }
 
-    // The number at the beginning of the input. One that the input breaks off in is read as if zeros followed, and
-    // nothing is left after it.
+    // The number at the beginning of the input. One that the input breaks off in is read as if zeros followed, one that
+    // is longer than a window as 0, and nothing is left after either.
     pub fn first_number(&mut self) -> Result<u32, AllocError> {
         let held = self.bytes.len();
         self.bytes.resize(WINDOW, 0)?;
