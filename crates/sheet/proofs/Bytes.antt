@@ -1,5 +1,5 @@
 -- The numbers of a stored sheet and their bytes: where they lie, and whether one of them takes more than two bytes. Assumes nothing.
-use mathlib.Core.Path.{◌≡◌, refl, sym, ap, ◌∙◌}
+use mathlib.Core.Path.{◌≡◌, refl, sym, ap, ap₂, ◌∙◌}
 use mathlib.Core.Bool.{Bool, true, false, not, ◌&&◌, ◌||◌, and-true, or-false, or_assoc}
 use mathlib.Core.List.{List, [], ◌∷◌, ◌++◌, append-nil, append_assoc, flatten}
 use Prim.Native.Nat.{ℕ, zero, suc, ◌+◌, ◌*◌, ◌≤◌, ◌<◌}
@@ -13,7 +13,7 @@ use lib.ListN.{length, get_or, set, take, length-append, length-take, drop_of_le
 use lib.Seq.{sets, sets-eq, append_snoc, take-suc}
 use Rattle.std.specs.List.{fold}
 use Rattle.sheet.specs.Code.Pairs.{pairs}
-use Rattle.sheet.specs.Code.Stored.{parts}
+use Rattle.sheet.specs.Code.Stored.{parts, slot_pairs}
 use Rattle.rules.specs.Base.{up_to, none_above}
 use Rattle.rules.specs.Stored.{is_large, two_bytes, stored_bytes}
 use Rattle.std.proofs.lemmas.List.{take_all, take_more}
@@ -119,6 +119,23 @@ module _ (xs : List ℕ) (i : ℕ) (l : i < length xs) where
   unfolding stored_bytes
   take_put d₀ d e = bytes-more d₀ d (take i xs) _ 0 (2 * i) e (omega (arith, length-take i xs)) ∙ ap (λ r. sets d₀ 0 (stored_bytes r)) (sym (take_more xs i 0 l))
 
+-- the numbers of pixels are those of two lists
+pub two-lists : (xs ys : List ℕ) (n : ℕ) → n ≤ length xs → n ≤ length ys
+    → is_large (take n xs) || is_large (take n ys) ≡ is_large (pairs (λ i. get_or xs i 0) (λ i. get_or ys i 0) n)
+unfolding is_large flatten up_to
+two-lists xs ys zero h l = refl
+two-lists xs ys (suc n) h l =
+    let k : n < length xs = omega arith in
+    let m : n < length ys = omega arith in
+    rw (take-suc xs n 0 k, take-suc ys n 0 m, large-append (take n xs) _, large-append (take n ys) _, pairs-large (λ i. get_or xs i 0) (λ i. get_or ys i 0) n, ← two-lists xs ys n (omega arith) (omega arith), large-append (get_or xs n 0 ∷ []) (get_or ys n 0 ∷ []))
+    (swap (is_large (take n xs)) _ (is_large (take n ys)) _)
+  where
+    swap : (a b c d : Bool) → (a || b) || (c || d) ≡ (a || c) || (b || d)
+    swap true b c d = refl
+    swap false true true d = refl
+    swap false true false d = refl
+    swap false false c d = refl
+
 -- ---- a whole sheet
 
 -- each of its parts is small
@@ -144,6 +161,18 @@ module _ (sizes pixels slots outputs : List ℕ) where
   pub stored-parts : stored_bytes sizes ++ (stored_bytes pixels ++ (stored_bytes slots ++ stored_bytes outputs)) ≡ stored_bytes (sizes ++ pixels ++ slots ++ outputs)
   stored-parts = rw (bytes-append (sizes ++ pixels ++ slots) outputs, bytes-append (sizes ++ pixels) slots, bytes-append sizes pixels, append_assoc, append_assoc)
 
+-- whether one of the parts is large
+pub parts-large : (sizes labels links outputs : List ℕ) (slots : List (List ℕ)) → length links ≡ length labels
+    → is_large sizes || is_large labels || is_large links || is_large (slot_pairs slots) || is_large outputs ≡ is_large (parts sizes labels links slots outputs)
+parts-large sizes labels links outputs slots e =
+    ap (λ b. b || is_large (slot_pairs slots) || is_large outputs) (or_assoc (is_large sizes) (is_large labels) (is_large links) ∙ ap (λ b. is_large sizes || b) both) ∙ sym (stored-large sizes _ (slot_pairs slots) outputs)
+  where
+    n : ℕ
+    n = length labels
+
+    both : is_large labels || is_large links ≡ is_large (pairs (λ i. get_or labels i 0) (λ i. get_or links i 0) n)
+    both = ap₂ (λ a b. is_large a || is_large b) (sym (take_all n labels (omega arith))) (sym (take_all n links (omega (arith, e)))) ∙ two-lists labels links n (omega arith) (omega (arith, e))
+
 -- how many numbers the parts have
 pub stored-length : (sizes labels links outputs : List ℕ) (slots : List (List ℕ)) → length (parts sizes labels links slots outputs) ≡ length sizes + 2 * length labels + 2 * length slots + length outputs
 stored-length sizes labels links outputs slots =
@@ -165,7 +194,7 @@ pairs-same f g h k zero e = refl
 pairs-same f g h k (suc n) e = let l = e n (omega arith) in rw (pairs-more f g n, pairs-more h k n, l.0, l.1, pairs-same f g h k n (λ i m. e i (omega (arith, m)))) refl
 
 -- what the functions cite
-pub ruleset large_laws = (stored-large)
+pub ruleset large_laws = (stored-large, parts-large)
 
 pub ruleset put_laws = (small_at, take_put, written-whole, pairs-put, pairs-length, take_all)
 

@@ -1,5 +1,6 @@
 -- Pixels and slots with large numbers, and the parts that a sheet is cut in. Assumes nothing.
-use Rattle.std.proofs.Common.{[], ◌≡◌, ℕ, zero, suc, ◌≤◌, ◌*◌, ◌/◌, ◌++◌, ◌<◌, Bool, false, ◌||◌, List, length, get_or, drop, take, ltb, arith, ◌∙◌, ap, refl, sym, add-one}
+use Rattle.std.proofs.Common.{[], ◌≡◌, ℕ, zero, suc, ◌≤◌, ◌*◌, ◌/◌, ◌++◌, ◌<◌, Bool, false, ◌||◌, List, length, get_or, drop, take, ltb, arith, ◌∙◌, ap, ap₂, refl, sym, add-one}
+use Rattle.std.proofs.lemmas.List.Folds.{list_any_more}
 use Rattle.std.proofs.lemmas.List.Sums.{fold_more}
 use Rattle.std.proofs.lemmas.Slice.Zip.{length-zip, get_or-zip}
 use Rattle.std.proofs.lemmas.List.{get_or-take, take_all}
@@ -7,9 +8,9 @@ use lib.ListN.{length-take}
 use Rattle.sheet.specs.Code.Pairs.{pairs}
 use mathlib.Core.List.{flatten}
 use mathlib.Core.Bool.{or_assoc}
-use Rattle.std.specs.List.{fold, zip}
+use Rattle.std.specs.List.{fold, zip, list_any}
 use Rattle.std.specs.Simd.{first_chunks}
-use Rattle.sheet.specs.Code.Stored.{parts, pixel_pairs}
+use Rattle.sheet.specs.Code.Stored.{parts, pixel_pairs, slot_pairs}
 use Rattle.rules.specs.Base.{up_to}
 use Rattle.rules.specs.Layout.{slot_width}
 use Rattle.rules.specs.Paint.{slot_number}
@@ -76,6 +77,23 @@ fold-zip xs ys e = fold-pairs (λ x. x.0) (λ x. x.1) (zip xs ys) (0, 0) ∙ ap 
 
     same : (i : ℕ) → i < length xs → ((get_or (zip xs ys) i (0, 0)).0 ≡ get_or xs i 0) × ((get_or (zip xs ys) i (0, 0)).1 ≡ get_or ys i 0)
     same i l = rw (get_or-zip xs ys i (0, 0) l (omega (arith, e, l))) (refl, refl)
+
+-- whether the first pixel or the count of a slot takes more than two bytes
+abbrev pub has_large : List ℕ → Bool
+has_large slot = ltb 65535 (get_or slot 0 0) || ltb 65535 (get_or slot 1 0)
+
+-- that of one of the first n slots
+any-first : (slots : List (List ℕ)) (n : ℕ) → n ≤ length slots → list_any has_large (take n slots) ≡ is_large (pairs (λ k. get_or (get_or slots k []) 0 0) (λ k. get_or (get_or slots k []) 1 0) n)
+unfolding is_large flatten up_to
+any-first slots zero l = refl
+any-first slots (suc n) l =
+    rw (← add-one n) (list_any_more has_large slots n [] (omega (arith, l)))
+    ∙ ap₂ ◌||◌ (any-first slots n (omega (arith, l))) (sym (large-two (λ k. get_or (get_or slots k []) 0 0) (λ k. get_or (get_or slots k []) 1 0) n))
+    ∙ sym (pairs-large (λ k. get_or (get_or slots k []) 0 0) (λ k. get_or (get_or slots k []) 1 0) n)
+
+-- of one of all
+pub any-slot : (slots : List (List ℕ)) → list_any has_large slots ≡ is_large (slot_pairs slots)
+any-slot slots = ap (list_any has_large) (sym (take_all (length slots) slots (omega arith))) ∙ any-first slots (length slots) (omega arith)
 
 -- what `write` cites
 pub ruleset write_laws = (stored-small, stored-length, stored-parts, pair-small)
