@@ -119,7 +119,7 @@ module _ (xs : List ℕ) (i : ℕ) (l : i < length xs) where
   unfolding stored_bytes
   take_put d₀ d e = bytes-more d₀ d (take i xs) _ 0 (2 * i) e (omega (arith, length-take i xs)) ∙ ap (λ r. sets d₀ 0 (stored_bytes r)) (sym (take_more xs i 0 l))
 
--- the numbers of pixels are those of two lists
+-- whether one of the first n numbers of two lists is large, as their pairs say
 pub two-lists : (xs ys : List ℕ) (n : ℕ) → n ≤ length xs → n ≤ length ys
     → is_large (take n xs) || is_large (take n ys) ≡ is_large (pairs (λ i. get_or xs i 0) (λ i. get_or ys i 0) n)
 unfolding is_large flatten up_to
@@ -161,7 +161,7 @@ module _ (sizes pixels slots outputs : List ℕ) where
   pub stored-parts : stored_bytes sizes ++ (stored_bytes pixels ++ (stored_bytes slots ++ stored_bytes outputs)) ≡ stored_bytes (sizes ++ pixels ++ slots ++ outputs)
   stored-parts = rw (bytes-append (sizes ++ pixels ++ slots) outputs, bytes-append (sizes ++ pixels) slots, bytes-append sizes pixels, append_assoc, append_assoc)
 
--- whether one of the parts is large
+-- whether a number of a sheet is large, as its five lists say, each by itself
 pub parts-large : (sizes labels links outputs : List ℕ) (slots : List (List ℕ)) → length links ≡ length labels
     → is_large sizes || is_large labels || is_large links || is_large (slot_pairs slots) || is_large outputs ≡ is_large (parts sizes labels links slots outputs)
 parts-large sizes labels links outputs slots e =

@@ -1,13 +1,12 @@
 -- Pixels and slots with large numbers, and the parts that a sheet is cut in. Assumes nothing.
-use Rattle.std.proofs.Common.{[], ◌≡◌, ℕ, zero, suc, ◌≤◌, ◌*◌, ◌/◌, ◌++◌, ◌<◌, Bool, false, ◌||◌, List, length, get_or, drop, take, ltb, arith, ◌∙◌, ap, ap₂, refl, sym, add-one}
-use Rattle.std.proofs.lemmas.List.Folds.{list_any_more}
+use Rattle.std.proofs.Common.{[], ◌∷◌, ◌≡◌, ℕ, zero, suc, ◌≤◌, ◌*◌, ◌/◌, ◌++◌, ◌<◌, Bool, false, ◌||◌, List, length, get_or, drop, take, ltb, arith, ◌∙◌, ap, refl, sym, add-one}
 use Rattle.std.proofs.lemmas.List.Sums.{fold_more}
 use Rattle.std.proofs.lemmas.Slice.Zip.{length-zip, get_or-zip}
 use Rattle.std.proofs.lemmas.List.{get_or-take, take_all}
 use lib.ListN.{length-take}
 use Rattle.sheet.specs.Code.Pairs.{pairs}
 use mathlib.Core.List.{flatten}
-use mathlib.Core.Bool.{or_assoc}
+use mathlib.Core.Bool.{or-false, or_assoc}
 use Rattle.std.specs.List.{fold, zip, list_any}
 use Rattle.std.specs.Simd.{first_chunks}
 use Rattle.sheet.specs.Code.Stored.{parts, pixel_pairs, slot_pairs}
@@ -68,6 +67,11 @@ module _ {A : Type 0} (p q : A → ℕ) where
   pub fold-pairs : (xs : List A) (d : A) → fold or_large false xs ≡ is_large (pairs (λ k. p (get_or xs k d)) (λ k. q (get_or xs k d)) (length xs))
   fold-pairs xs d = ap (fold or_large false) (sym (take_all (length xs) xs (omega arith))) ∙ fold-first xs d (length xs) (omega arith)
 
+  -- as a search finds it
+  fold-any : (b : Bool) (xs : List A) → fold or_large b xs ≡ b || list_any (λ x. ltb 65535 (p x) || ltb 65535 (q x)) xs
+  fold-any b [] = sym (or-false b)
+  fold-any b (x ∷ xs) = fold-any (or_large b x) xs ∙ ap (λ c. c || list_any (λ x. ltb 65535 (p x) || ltb 65535 (q x)) xs) (or_assoc b (ltb 65535 (p x)) (ltb 65535 (q x))) ∙ or_assoc b (ltb 65535 (p x) || ltb 65535 (q x)) _
+
 -- of two lists, zipped
 pub fold-zip : (xs ys : List ℕ) → length ys ≡ length xs → fold (or_large (λ (x : ℕ × ℕ). x.0) (λ x. x.1)) false (zip xs ys) ≡ is_large (pixel_pairs xs ys)
 fold-zip xs ys e = fold-pairs (λ x. x.0) (λ x. x.1) (zip xs ys) (0, 0) ∙ ap is_large (rw long (pairs-same _ _ _ _ (length xs) same))
@@ -84,12 +88,7 @@ has_large slot = ltb 65535 (get_or slot 0 0) || ltb 65535 (get_or slot 1 0)
 
 -- that of one of the first n slots
 any-first : (slots : List (List ℕ)) (n : ℕ) → n ≤ length slots → list_any has_large (take n slots) ≡ is_large (pairs (λ k. get_or (get_or slots k []) 0 0) (λ k. get_or (get_or slots k []) 1 0) n)
-unfolding is_large flatten up_to
-any-first slots zero l = refl
-any-first slots (suc n) l =
-    rw (← add-one n) (list_any_more has_large slots n [] (omega (arith, l)))
-    ∙ ap₂ ◌||◌ (any-first slots n (omega (arith, l))) (sym (large-two (λ k. get_or (get_or slots k []) 0 0) (λ k. get_or (get_or slots k []) 1 0) n))
-    ∙ sym (pairs-large (λ k. get_or (get_or slots k []) 0 0) (λ k. get_or (get_or slots k []) 1 0) n)
+any-first slots n l = sym (fold-any (λ slot. get_or slot 0 0) (λ slot. get_or slot 1 0) false (take n slots)) ∙ fold-first (λ slot. get_or slot 0 0) (λ slot. get_or slot 1 0) slots [] n l
 
 -- of one of all
 pub any-slot : (slots : List (List ℕ)) → list_any has_large slots ≡ is_large (slot_pairs slots)
